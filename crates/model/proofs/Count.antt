@@ -1,0 +1,130 @@
+-- Demand 3, first half: how many events a frame has. Least has the second half. Assumes nothing, of no table either.
+use mathlib.Core.Path.{_≡_, refl, ap, _∙_}
+use mathlib.Core.Bool.{Bool, true, false, cond, _&&_}
+use mathlib.Core.List.{List, [], _∷_, _++_, map}
+use Prim.Native.Nat.{ℕ, zero, suc, _+_, _≤_}
+use native.Mathlib.Omega.{arith}
+use lib.Dec.{eqb, eqb·suc-zero}
+use lib.ListN.{length, getD, length-append, length-map}
+use borrow.Author.Tests.{eqb-true, eqb-false}
+use Rattle.model.proofs.Bools.{is-true, eqZ-refl}
+use Rattle.model.specs.Numbers.{eqZ}
+use Rattle.model.specs.Panel.{Panel}
+use Rattle.model.specs.Table.{Slot, Table}
+use Rattle.model.specs.Sending.{Sent, sendNumber, sendReport, unless, changes, opened, allChanges, otherChanges, body, closed, sending, eventOf, eventsSent, oneUnless, sameSlot, changedIn, changedNumbers, changedSlots, changedOthers, fewest}
+
+pub oneUnless-le : (b : Bool) → oneUnless b ≤ 1
+oneUnless-le true = omega arith
+oneUnless-le false = omega arith
+
+-- ---- a slot
+
+abbrev isNone : List Sent → Bool
+isNone [] = true
+isNone (x ∷ xs) = false
+
+length-changes : (i : ℕ) (old new : Slot) → length (changes i old new) ≡ changedIn old new
+length-changes i [] new = refl
+length-changes i (o ∷ old) [] = refl
+length-changes i (o ∷ old) (v ∷ new) =
+    elim (eqZ o v) as (λ b. length (unless b (sendNumber i v) (changes (suc i) old new)) ≡ oneUnless b + changedIn old new) [
+      | true ↦ omega (arith, length-changes (suc i) old new)
+      | false ↦ omega (arith, length-changes (suc i) old new)
+    ]
+
+none-changes : (i : ℕ) (old new : Slot) → isNone (changes i old new) ≡ sameSlot old new
+none-changes i [] new = refl
+none-changes i (o ∷ old) [] = refl
+none-changes i (o ∷ old) (v ∷ new) =
+    elim (eqZ o v) as (λ b. isNone (unless b (sendNumber i v) (changes (suc i) old new)) ≡ (b && sameSlot old new)) [
+      | true ↦ none-changes (suc i) old new
+      | false ↦ refl
+    ]
+
+opened-one-more : (k : ℕ) (xs : List Sent) → length (opened k xs) ≡ oneUnless (isNone xs) + length xs
+opened-one-more k [] = refl
+opened-one-more k (x ∷ xs) = omega arith
+
+length-opened : (k : ℕ) (o v : Slot) → length (opened k (changes 0 o v)) ≡ changedIn o v + oneUnless (sameSlot o v)
+length-opened k o v = omega (arith, opened-one-more k (changes 0 o v), length-changes 0 o v, ap oneUnless (none-changes 0 o v))
+
+-- ---- the table
+
+length-all : (k : ℕ) (old new : Table) → length (allChanges k old new) ≡ changedNumbers old new + changedSlots old new
+length-all k [] new = refl
+length-all k (o ∷ old) [] = refl
+length-all k (o ∷ old) (v ∷ new) = omega (arith, length-append (opened k (changes 0 o v)) (allChanges (suc k) old new), length-opened k o v, length-all (suc k) old new)
+
+changedIn-none : (old : Slot) → changedIn old [] ≡ 0
+changedIn-none [] = refl
+changedIn-none (o ∷ old) = refl
+
+length-others : (d k : ℕ) (old new : Table) → changedIn (getD old d []) (getD new d []) + length (otherChanges d k old new) ≡ changedNumbers old new + changedOthers d old new
+length-others d k [] new = refl
+length-others d k (o ∷ old) [] = omega (arith, changedIn-none (getD (o ∷ old) d []))
+length-others zero k (o ∷ old) (v ∷ new) = omega (arith, length-all (suc k) old new)
+length-others (suc d) k (o ∷ old) (v ∷ new) = omega (arith, length-append (opened k (changes 0 o v)) (otherChanges d (suc k) old new), length-opened k o v, length-others d (suc k) old new)
+
+length-body : (c : ℕ) (old new : Table) → length (body c old new) ≡ changedNumbers old new + changedOthers c old new
+length-body c old new =
+    omega (arith, length-append (changes 0 (getD old c []) (getD new c [])) (otherChanges c 0 old new), length-changes 0 (getD old c []) (getD new c []), length-others c 0 old new)
+
+-- ---- a changed slot has a changed number
+
+slot-has-number : (o v : Slot) → oneUnless (sameSlot o v) ≤ changedIn o v
+slot-has-number [] v = omega arith
+slot-has-number (x ∷ o) [] = omega arith
+slot-has-number (x ∷ o) (y ∷ v) =
+    elim (eqZ x y) as (λ b. oneUnless (b && sameSlot o v) ≤ oneUnless b + changedIn o v) [
+      | true ↦ omega (arith, slot-has-number o v)
+      | false ↦ omega arith
+    ]
+
+pub slots-have-numbers : (old new : Table) → changedSlots old new ≤ changedNumbers old new
+slots-have-numbers [] new = omega arith
+slots-have-numbers (o ∷ old) [] = omega arith
+slots-have-numbers (o ∷ old) (v ∷ new) = omega (arith, slot-has-number o v, slots-have-numbers old new)
+
+pub others-le : (c : ℕ) (old new : Table) → changedOthers c old new ≤ changedSlots old new
+others-le c [] new = omega arith
+others-le c (o ∷ old) [] = omega arith
+others-le zero (o ∷ old) (v ∷ new) = omega arith
+others-le (suc c) (o ∷ old) (v ∷ new) = omega (arith, others-le c old new)
+
+-- ---- the count
+
+length-closed : (xs : List Sent) → length (closed xs) ≡ cond (eqb (length xs) 0) 0 (1 + length xs)
+length-closed [] = refl
+length-closed (x ∷ xs) = rw (eqb·suc-zero (length xs)) (omega (arith, length-append (x ∷ xs) (sendReport ∷ [])))
+
+pub sending-count : (c : ℕ) (old new : Table) → length (sending c old new) ≡ fewest c old new
+sending-count c old new = length-closed (body c old new) ∙ by-numbers (length (body c old new)) (changedNumbers old new) (changedOthers c old new) (length-body c old new) (omega (arith, others-le c old new, slots-have-numbers old new))
+  where
+    by-numbers : (n a b : ℕ) → n ≡ a + b → b ≤ a → cond (eqb n 0) 0 (1 + n) ≡ cond (eqb a 0) 0 (1 + a + b)
+    by-numbers n a b e l =
+        (elim (eqb a 0) as (λ t. eqb a 0 ≡ t → cond (eqb n 0) 0 (1 + n) ≡ cond t 0 (1 + a + b)) [
+          | true ↦ λ q. by-zero (eqb n 0) refl q
+          | false ↦ λ q. by-some (eqb n 0) refl q
+        ]) refl
+      where
+        by-zero : (t : Bool) → eqb n 0 ≡ t → eqb a 0 ≡ true → cond t 0 (1 + n) ≡ 0
+        by-zero true p q = refl
+        by-zero false p q = absurd (eqb-false n 0 p (omega (arith, eqb-true a 0 q)))
+
+        by-some : (t : Bool) → eqb n 0 ≡ t → eqb a 0 ≡ false → cond t 0 (1 + n) ≡ 1 + a + b
+        by-some true p q = absurd (eqb-false a 0 q (omega (arith, eqb-true n 0 p)))
+        by-some false p q = omega arith
+
+-- None if no number changes; else one, one for each changed number, and one for each changed slot other than the current.
+pub event-count : (p : Panel) (c : ℕ) (old new : Table) → length (eventsSent p c old new) ≡ fewest c old new
+event-count p c old new = length-map (sending c old new) (eventOf (p .fields)) ∙ sending-count c old new
+
+-- ---- a table against itself
+
+pub changedIn-self : (s : Slot) → changedIn s s ≡ 0
+changedIn-self [] = refl
+changedIn-self (v ∷ s) = rw (is-true (eqZ v v) (eqZ-refl v)) (omega (arith, changedIn-self s))
+
+pub changedNumbers-self : (t : Table) → changedNumbers t t ≡ 0
+changedNumbers-self [] = refl
+changedNumbers-self (s ∷ t) = omega (arith, changedIn-self s, changedNumbers-self t)

@@ -1,0 +1,40 @@
+-- What is shown changes by a report alone, and then becomes what was pending. Assumes nothing.
+use mathlib.Core.Path.{_≡_, refl}
+use mathlib.Core.Bool.{Bool, true, false}
+use Prim.Native.Nat.{ℕ}
+use lib.IntN.{ℤ}
+use Rattle.model.specs.Events.{Act, skip, bad, report, loss, slot, number}
+use Rattle.model.specs.Reader.{Mode, following, dropped, stale, Reader, stepIn, step}
+
+-- Anything but a report.
+abbrev pub NoReport : Act → Type 0
+NoReport skip = Unit {0}
+NoReport bad = Unit {0}
+NoReport report = ⊥
+NoReport loss = Unit {0}
+NoReport (slot k) = Unit {0}
+NoReport (number i v) = Unit {0}
+
+still-shown : (m : Mode) (r : Reader) (x : Act) → NoReport x → stepIn m r x .shown ≡ r .shown
+still-shown following r skip n = refl
+still-shown following r bad n = refl
+still-shown following r report n = absurd n
+still-shown following r loss n = refl
+still-shown following r (slot k) n = refl
+still-shown following r (number i v) n = refl
+still-shown dropped r skip n = refl
+still-shown dropped r bad n = refl
+still-shown dropped r report n = absurd n
+still-shown dropped r loss n = refl
+still-shown dropped r (slot k) n = refl
+still-shown dropped r (number i v) n = refl
+still-shown stale r skip n = refl
+still-shown stale r bad n = refl
+still-shown stale r report n = absurd n
+still-shown stale r loss n = refl
+still-shown stale r (slot k) n = refl
+still-shown stale r (number i v) n = refl
+
+-- In every mode the shown table stays until a report.
+pub shown-by-report : (r : Reader) (x : Act) → NoReport x → step r x .shown ≡ r .shown
+shown-by-report r x n = still-shown (r .mode) r x n

@@ -1,0 +1,134 @@
+-- The bench sheet's cases marked P, as one table: what is given, and what document 01 says comes of it. Sheet of proofs/ shows every row. Assumes nothing.
+-- P9, the pod's row, joins this table with the pod's definitions.
+use mathlib.Core.List.{List, [], _∷_, _++_}
+use Prim.Native.Nat.{ℕ, _-_}
+use lib.IntN.{ℤ, pos, negsuc}
+use lib.ListN.{length, replicate}
+use Rattle.model.specs.Panel.{Setup, base}
+use Rattle.model.specs.Table.{Slot, Table}
+use Rattle.model.specs.Events.{Event}
+use Rattle.model.specs.Records.{bytesOf}
+use Rattle.model.specs.Reader.{Counts, nothing, oneShown, follow}
+use Rattle.model.specs.States.{WriterState, ReaderState}
+use Rattle.model.specs.Calls.{accepted, Written, writeCall, writeBuffer, Ran, runCall}
+
+-- ---- a case and its outcome
+
+-- A writer's state, a frame, a buffer that is lent whole from its start.
+pub data Case : Type 0 where
+  frame : WriterState → List ℤ → List ℕ → Case
+
+-- The writer's answer, the buffer afterwards, and what a following reader of the same setup, table and current slot makes of the buffer.
+pub data Outcome : Type 0 where
+  wrote : Written → List ℕ → Ran → Outcome
+
+-- A reader that shows the writer's table and has nothing pending.
+abbrev pub pupil : WriterState → ReaderState
+pupil s = record { setup = s .setup; reader = follow (s .writer .table) (s .writer .table) (s .writer .current) }
+
+-- What the definitions give for a case.
+abbrev pub outcome : Case → Outcome
+outcome (frame s f buf) = wrote (writeCall base s f 0 (length buf)) (writeBuffer base s f 0 buf) (runCall base (pupil s) (writeBuffer base s f 0 buf))
+
+-- One row of the sheet.
+pub record Row : Type 0 where
+  pub given : Case
+  pub gives : Outcome
+
+-- ---- names for what the sheet writes
+
+abbrev pub SLOT : ℤ → Event
+SLOT v = record { type = 3; code = 0x2f; value = v }
+
+abbrev pub ID : ℤ → Event
+ID v = record { type = 3; code = 0x39; value = v }
+
+abbrev pub X : ℤ → Event
+X v = record { type = 3; code = 0x35; value = v }
+
+abbrev pub Y : ℤ → Event
+Y v = record { type = 3; code = 0x36; value = v }
+
+abbrev pub PRESSURE : ℤ → Event
+PRESSURE v = record { type = 3; code = 0x3a; value = v }
+
+abbrev pub REPORT : Event
+REPORT = record { type = 0; code = 0; value = pos 0 }
+
+-- A slot's four numbers.
+abbrev pub at : ℤ → ℕ → ℕ → ℕ → Slot
+at i x y p = i ∷ pos x ∷ pos y ∷ pos p ∷ []
+
+-- One slot of a frame: the kind, x, y and pressure.
+abbrev pub kind : ℕ → ℕ → ℕ → ℕ → List ℤ
+kind k x y p = pos k ∷ pos x ∷ pos y ∷ pos p ∷ []
+
+-- n slots, largest x and y 4,000, largest pressure 255.
+abbrev pub panel : ℕ → Setup
+panel n = record { slots = n; largest = 4_000 ∷ 4_000 ∷ 255 ∷ [] }
+
+-- A writer of n slots: these slots and then unused records, the current slot and the counter.
+abbrev pub writer : ℕ → Table → ℕ → ℕ → WriterState
+writer n t c k = record { setup = panel n; writer = record { table = t ++ replicate (16 - length t) (at (negsuc 0) 0 0 0); current = c; counter = k } }
+
+-- A row: a frame on a writer's state and a buffer of just the bytes that come out, accepted with so many events and these changed slots,
+-- and read back to the new table: one table shown, or none where nothing is sent.
+abbrev pub turns : WriterState → List ℤ → List ℕ → ℕ → ℕ → WriterState → Counts → Row
+turns old f bytes count changed new counts = record {
+  given = frame old f (replicate (length bytes) 0);
+  gives = wrote (record { verdict = accepted; state = new; count = count; changed = changed; need = 0 }) bytes (record { verdict = accepted; state = pupil new; counts = counts });
+}
+
+-- ---- the states that P1 to P7 lead through
+
+abbrev pub fresh : WriterState
+fresh = writer 2 [] 0 0
+
+abbrev pub after1 : WriterState
+after1 = writer 2 (at (pos 0) 100 200 30 ∷ at (negsuc 0) 0 0 0 ∷ []) 0 1
+
+abbrev pub after2 : WriterState
+after2 = writer 2 (at (pos 0) 100 200 30 ∷ at (pos 1) 300 400 30 ∷ []) 1 2
+
+abbrev pub after3 : WriterState
+after3 = writer 2 (at (pos 0) 101 200 30 ∷ at (pos 1) 300 401 30 ∷ []) 0 2
+
+abbrev pub after4 : WriterState
+after4 = writer 2 (at (negsuc 0) 101 200 30 ∷ at (pos 1) 300 401 30 ∷ []) 0 2
+
+abbrev pub after5 : WriterState
+after5 = writer 2 (at (pos 2) 101 200 30 ∷ at (pos 1) 300 401 30 ∷ []) 0 3
+
+abbrev pub after6 : WriterState
+after6 = writer 2 (at (pos 3) 101 200 30 ∷ at (pos 1) 300 401 30 ∷ []) 0 4
+
+-- P1's whole output.
+abbrev pub bytes1 : List ℕ
+bytes1 =
+    (0x03 ∷ 0x00 ∷ 0x39 ∷ 0x00 ∷ 0x00 ∷ 0x00 ∷ 0x00 ∷ 0x00 ∷ [])
+    ++ (0x03 ∷ 0x00 ∷ 0x35 ∷ 0x00 ∷ 0x64 ∷ 0x00 ∷ 0x00 ∷ 0x00 ∷ [])
+    ++ (0x03 ∷ 0x00 ∷ 0x36 ∷ 0x00 ∷ 0xc8 ∷ 0x00 ∷ 0x00 ∷ 0x00 ∷ [])
+    ++ (0x03 ∷ 0x00 ∷ 0x3a ∷ 0x00 ∷ 0x1e ∷ 0x00 ∷ 0x00 ∷ 0x00 ∷ [])
+    ++ (0x00 ∷ 0x00 ∷ 0x00 ∷ 0x00 ∷ 0x00 ∷ 0x00 ∷ 0x00 ∷ 0x00 ∷ [])
+
+-- ---- the sheet
+
+-- P1 to P8; P2 to P7 each follow the row before.
+abbrev pub sheet : List Row
+sheet =
+    turns fresh (kind 1 100 200 30 ++ kind 0 0 0 0) bytes1 5 1 after1 oneShown
+    ∷ turns after1 (kind 1 100 200 30 ++ kind 1 300 400 30) (bytesOf (SLOT (pos 1) ∷ ID (pos 1) ∷ X (pos 300) ∷ Y (pos 400) ∷ PRESSURE (pos 30) ∷ REPORT ∷ [])) 6 2 after2 oneShown
+    ∷ turns after2 (kind 1 101 200 30 ++ kind 1 300 401 30) (bytesOf (Y (pos 401) ∷ SLOT (pos 0) ∷ X (pos 101) ∷ REPORT ∷ [])) 4 3 after3 oneShown
+    ∷ turns after3 (kind 0 0 0 0 ++ kind 1 300 401 30) (bytesOf (ID (negsuc 0) ∷ REPORT ∷ [])) 2 1 after4 oneShown
+    ∷ turns after4 (kind 1 101 200 30 ++ kind 1 300 401 30) (bytesOf (ID (pos 2) ∷ REPORT ∷ [])) 2 1 after5 oneShown
+    ∷ turns after5 (kind 2 101 200 30 ++ kind 1 300 401 30) (bytesOf (ID (pos 3) ∷ REPORT ∷ [])) 2 1 after6 oneShown
+    ∷ turns after6 (kind 1 101 200 30 ++ kind 1 300 401 30) [] 0 0 after6 nothing
+    ∷ turns
+    (writer 3 (at (negsuc 0) 0 0 0 ∷ at (pos 0) 5 5 5 ∷ at (negsuc 0) 0 0 0 ∷ []) 0 65_535)
+    (kind 1 1 2 3 ++ kind 1 5 5 5 ++ kind 1 7 8 9)
+    (bytesOf (ID (pos 65_535) ∷ X (pos 1) ∷ Y (pos 2) ∷ PRESSURE (pos 3) ∷ SLOT (pos 2) ∷ ID (pos 1) ∷ X (pos 7) ∷ Y (pos 8) ∷ PRESSURE (pos 9) ∷ REPORT ∷ []))
+    10
+    5
+    (writer 3 (at (pos 65_535) 1 2 3 ∷ at (pos 0) 5 5 5 ∷ at (pos 1) 7 8 9 ∷ []) 2 2)
+    oneShown
+    ∷ []
