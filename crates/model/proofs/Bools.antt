@@ -5,6 +5,8 @@ use Prim.Native.Nat.{ℕ}
 use lib.Dec.{T, eqb→eq, eqb-refl, not-T}
 use lib.IntN.{ℤ, pos, negsuc}
 use Rattle.model.specs.Numbers.{eqZ}
+-- Brought in so that the sheet is checked before any law: a wrong definition then fails at a row of it, by computing.
+use Rattle.model.proofs.Bench
 
 -- ---- a test and its value
 

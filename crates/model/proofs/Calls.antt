@@ -12,7 +12,9 @@ use Rattle.model.proofs.Bools.{is-true, is-false, both, both-left, both
 use Rattle.model.proofs.Tables.{good-length}
 use Rattle.model.proofs.Count.{event-count}
 use Rattle.model.proofs.Lost.{Lost, lost-reads, unknown-after-loss}
-use Rattle.model.proofs.Steady.{SteadyReader, reader-facts, facts-reader, read-steady, SteadyWriter, writer-facts, facts-writer, rows-steady, fresh-writer, fresh-reader, setup-slots}
+use Rattle.model.proofs.ReaderSteady.{SteadyReader, reader-facts, facts-reader, read-steady}
+use Rattle.model.proofs.WriterSteady.{SteadyWriter, writer-facts, facts-writer, rows-steady}
+use Rattle.model.proofs.FreshSteady.{fresh-writer, fresh-reader, setup-slots}
 use Rattle.model.proofs.Ones.{event-limit}
 use Rattle.model.proofs.Bytes.{reads-back-bytes}
 use Rattle.model.proofs.Layouts.{few-records, panel-tellable, fields-length}
@@ -24,7 +26,7 @@ use Rattle.model.specs.Records.{bytesOf, eventsOf, lay}
 use Rattle.model.specs.Frame.{rowsFrom, rowsOf, sized, valuesGood, newTable}
 use Rattle.model.specs.Sending.{fewest}
 use Rattle.model.specs.Reader.{Mode, following, dropped, stale, Reader, follow, settledAt, Counts, nothing, read, run as runOver}
-use Rattle.model.specs.States.{Writer, WriterState, goodWriter, writerGood, ReaderState, goodReader, readerGood, freshWriter, freshReader}
+use Rattle.model.specs.States.{Writer, WriterState, goodWriter, writerGood, ReaderState, goodReader, readerGood, freshWriter, freshReader, zeroWriter, zeroReader}
 use Rattle.model.specs.Calls.{Verdict, accepted, setup, state, frame, value, noRoom, ragged, notStale, image, verdictNumber, check, isAccepted, freshVerdict, FreshWriter, freshWriterCall, FreshReader, freshReaderCall, writerAfter, frameEvents, needOf, mostEvents, roomFor, writeVerdict, Written, notWritten, taken, writeCall, writeBuffer, runVerdict, Ran, notRun, ran, runCall, stepCall, isStale, imageTable, imageGood, loadVerdict, Loaded, loadCall, Asked, contact, empty, unknown, noSuchSlot, askedIn, asked, askCall}
 
 -- ---- verdicts
@@ -94,6 +96,12 @@ pub fresh-reader-good : (l : Layout) (u : Setup) → T (isAccepted (freshReaderC
 unfolding freshReaderCall
 fresh-reader-good l u h =
     accepted-has (λ a. T (readerGood l a)) (isAccepted (freshVerdict l u)) _ _ h (state-reader l (record { setup = u; reader = freshReader (panelOf l u) }) (record { setup = passed (setupGood l u) setup accepted tt h .0; reader = fresh-reader l u (passed (setupGood l u) setup accepted tt h .0) }))
+
+-- With refusal 1 a state's place holds zeros and mode following.
+pub fresh-refused : (l : Layout) (u : Setup) → T (not (setupGood l u))
+    → (freshWriterCall l u ≡ record { verdict = setup; state = zeroWriter l }) × (freshReaderCall l u ≡ record { verdict = setup; state = zeroReader l })
+unfolding freshWriterCall freshReaderCall
+fresh-refused l u h = (rw (is-false (setupGood l u) h), rw (is-false (setupGood l u) h))
 
 -- ---- writing
 

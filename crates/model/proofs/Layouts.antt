@@ -8,7 +8,7 @@ use lib.Dec.{T, ltb, leb, eqb, ltb→lt, lt→ltb, leb→le, le→leb}
 use lib.IntN.{pos, negsuc}
 use lib.ListN.{length}
 use Rattle.model.proofs.Bools.{both, both-left, both-right}
-use Rattle.model.proofs.Steady.{setup-slots}
+use Rattle.model.proofs.FreshSteady.{setup-slots}
 use Rattle.model.specs.Numbers.{between, betweenZ}
 use Rattle.model.specs.Panel.{Axis, Layout, Setup, Field, Panel, largestGood, setupGood, idField, axisFields, panelOf, slotCode, unlisted, codesDiffer, carried, allCarried, fieldCodes, tellable, axesCarried, axisCodes, goodLayout}
 

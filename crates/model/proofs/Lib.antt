@@ -1,4 +1,6 @@
--- The model's laws and theorems, one theme a file.
+-- The model's laws and theorems, one theme a file. The sheet and what is shown come first: a wrong definition fails there, by computing, before any proof.
+pub mod Bench
+pub mod AtReport
 pub mod Bools
 pub mod Tables
 pub mod Follow
@@ -8,11 +10,11 @@ pub mod Count
 pub mod Lost
 pub mod Least
 pub mod Ids
-pub mod Steady
+pub mod ReaderSteady
+pub mod WriterSteady
+pub mod FreshSteady
 pub mod Ones
 pub mod Bytes
 pub mod Layouts
 pub mod Calls
-pub mod Shown
-pub mod Sheet
 pub mod Instances

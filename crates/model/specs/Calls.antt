@@ -48,6 +48,7 @@ isAccepted v = eqb (verdictNumber v) 0
 abbrev pub freshVerdict : Layout → Setup → Verdict
 freshVerdict l u = check (setupGood l u) setup accepted
 
+-- The answer of a fresh writer.
 pub record FreshWriter : Type 0 where
   pub verdict : Verdict
   pub state : WriterState
@@ -59,6 +60,7 @@ freshWriterCall l u = record {
   state = cond (isAccepted (freshVerdict l u)) (record { setup = u; writer = freshWriter (panelOf l u) }) (zeroWriter l);
 }
 
+-- The answer of a fresh reader.
 pub record FreshReader : Type 0 where
   pub verdict : Verdict
   pub state : ReaderState
@@ -100,6 +102,7 @@ writeVerdict l s f at size =
     let p = panelOf l (s .setup) in
     check (writerGood l s) state (check (sized p f) frame (check (valuesGood p f) value (check (roomFor (needOf p (s .writer) f) at size) noRoom accepted)))
 
+-- The answer of a write: the verdict, the state, the event count, the changed slots and the need.
 pub record Written : Type 0 where
   pub verdict : Verdict
   pub state : WriterState
@@ -138,6 +141,7 @@ writeBuffer l s f at buf = cond (isAccepted (writeVerdict l s f at (length buf))
 unfoldable pub runVerdict : Layout → ReaderState → List ℕ → Verdict
 runVerdict l s bs = check (readerGood l s) state (check (eqb (length bs % 8) 0) ragged accepted)
 
+-- The answer of a run: the verdict, the state and the four counts.
 pub record Ran : Type 0 where
   pub verdict : Verdict
   pub state : ReaderState
@@ -165,6 +169,7 @@ stepCall l s e =
 
 -- ---- a load: refusals 2, 7, 8
 
+-- Only a stale reader takes a load.
 abbrev pub isStale : Mode → Bool
 isStale following = false
 isStale dropped = false
@@ -182,6 +187,7 @@ imageGood p l c = sized p l && goodTable p (imageTable p l) && idsDiffer (imageT
 unfoldable pub loadVerdict : Layout → ReaderState → List ℤ → ℕ → Verdict
 loadVerdict l s m c = check (readerGood l s) state (check (isStale (s .reader .mode)) notStale (check (imageGood (panelOf l (s .setup)) m c) image accepted))
 
+-- The answer of a load: the verdict and the state.
 pub record Loaded : Type 0 where
   pub verdict : Verdict
   pub state : ReaderState
@@ -197,10 +203,27 @@ loadCall l s m c =
 
 -- ---- asked for a slot: refusal 2, then the slot number, then the mode
 
+-- The answer for a slot: a contact with its shown numbers, empty, unknown, no such slot, or refused.
 pub data Asked : Type 0 where
   contact : Slot → Asked
   empty unknown noSuchSlot : Asked
   refused : Verdict → Asked
+
+-- Document 01's number of a refused question; 0 for any other answer.
+abbrev pub askedNumber : Asked → ℕ
+askedNumber (contact s) = 0
+askedNumber empty = 0
+askedNumber unknown = 0
+askedNumber noSuchSlot = 0
+askedNumber (refused v) = verdictNumber v
+
+-- The numbers that come with an answer: a contact's.
+abbrev pub askedValues : Asked → List ℤ
+askedValues (contact s) = s
+askedValues empty = []
+askedValues unknown = []
+askedValues noSuchSlot = []
+askedValues (refused v) = []
 
 -- A slot by the mode: its shown numbers if its id is live, empty if not, and unknown unless following.
 abbrev pub askedIn : Mode → Slot → Asked

@@ -9,4 +9,4 @@ pub mod Sending
 pub mod Reader
 pub mod States
 pub mod Calls
-pub mod Sheet
+pub mod Bench

@@ -103,15 +103,19 @@ pub record Counts : Type 0 where
   pub bad : ℕ
   pub ignored : ℕ
 
+-- Nothing counted.
 abbrev pub nothing : Counts
 nothing = record { shown = 0; skipped = 0; bad = 0; ignored = 0 }
 
+-- One table shown.
 abbrev pub oneShown : Counts
 oneShown = record { shown = 1; skipped = 0; bad = 0; ignored = 0 }
 
+-- One event skipped.
 abbrev pub oneSkipped : Counts
 oneSkipped = record { shown = 0; skipped = 1; bad = 0; ignored = 0 }
 
+-- One bad value, or one report with repeated ids.
 abbrev pub oneBad : Counts
 oneBad = record { shown = 0; skipped = 0; bad = 1; ignored = 0 }
 

@@ -67,15 +67,18 @@ freshReader p = settledAt (freshTable p) 0 following
 
 -- ---- the place of a state that is not made: zeros, and mode following
 
+-- No slots, and 0 for every largest value.
 abbrev pub zeroSetup : Layout → Setup
 zeroSetup l = record { slots = 0; largest = map (λ a. 0) (l .axes) }
 
--- Ids are 0 too, not -1.
+-- Every number of every record is 0, the ids too.
 abbrev pub zeroTable : Layout → Table
 zeroTable l = replicate (l .records) (pos 0 ∷ map (λ a. pos 0) (l .axes))
 
+-- The writer's place.
 abbrev pub zeroWriter : Layout → WriterState
 zeroWriter l = record { setup = zeroSetup l; writer = record { table = zeroTable l; current = 0; counter = 0 } }
 
+-- The reader's place.
 abbrev pub zeroReader : Layout → ReaderState
 zeroReader l = record { setup = zeroSetup l; reader = settledAt (zeroTable l) 0 following }

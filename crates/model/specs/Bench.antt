@@ -1,4 +1,4 @@
--- The bench sheet's cases marked P, as one table: what is given, and what document 01 says comes of it. Sheet of proofs/ shows every row. Assumes nothing.
+-- The bench sheet's cases marked P, as one table: what is given, and what document 01 says comes of it. Bench of proofs/ shows every row. Assumes nothing.
 -- P9, the pod's row, joins this table with the pod's definitions.
 use mathlib.Core.List.{List, [], _∷_, _++_}
 use Prim.Native.Nat.{ℕ, _-_}
@@ -132,3 +132,8 @@ sheet =
     (writer 3 (at (pos 65_535) 1 2 3 ∷ at (pos 0) 5 5 5 ∷ at (pos 1) 7 8 9 ∷ []) 2 2)
     oneShown
     ∷ []
+
+-- Not marked P, and yet shown: one slot, id 7 live, counter 7, kind 2 with the same numbers. Freeing the replaced id would send nothing.
+abbrev pub replaced : Row
+replaced =
+    turns (writer 1 (at (pos 7) 5 5 5 ∷ []) 0 7) (kind 2 5 5 5) (bytesOf (ID (pos 8) ∷ REPORT ∷ [])) 2 1 (writer 1 (at (pos 8) 5 5 5 ∷ []) 0 9) oneShown

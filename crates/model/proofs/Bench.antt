@@ -6,9 +6,14 @@ use Rattle.model.specs.Frame.{rowsFrom, freeId}
 use Rattle.model.specs.Reader.{run}
 use Rattle.model.specs.States.{writerGood, readerGood}
 use Rattle.model.specs.Calls.{writeVerdict, writeCall, writeBuffer, runVerdict, runCall}
-use Rattle.model.specs.Sheet.{Row, Outcome, outcome, sheet}
+use Rattle.model.specs.Bench.{Row, Outcome, outcome, sheet, replaced}
 
 -- Every row: the writer's whole answer, every byte of the buffer, and the table read back.
 sheet-holds : map (λ (r : Row). outcome (r .given)) sheet ≡ map (λ (r : Row). r .gives) sheet
 unfolding bitsOf signedOf bytesOf eventsFrom rowsFrom freeId run writerGood readerGood writeVerdict writeCall writeBuffer runVerdict runCall
 sheet-holds = refl
+
+-- A replaced id is not free within its own frame.
+replaced-holds : outcome (replaced .given) ≡ replaced .gives
+unfolding bitsOf signedOf bytesOf eventsFrom rowsFrom freeId run writerGood readerGood writeVerdict writeCall writeBuffer runVerdict runCall
+replaced-holds = refl
