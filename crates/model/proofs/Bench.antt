@@ -1,7 +1,7 @@
 -- The bench sheet: the definitions give every row that is marked P, by computing. Assumes nothing.
 use mathlib.Core.Path.{_≡_, refl}
 use mathlib.Core.List.{List, map}
-use Rattle.model.specs.Records.{bitsOf, signedOf, bytesOf, eventsFrom}
+use Rattle.model.specs.Records.{bitsOf, signedOf, recordBytes, bytesOf, eventsFrom, lay}
 use Rattle.model.specs.Frame.{rowsFrom, freeId}
 use Rattle.model.specs.Reader.{run}
 use Rattle.model.specs.States.{writerGood, readerGood}
@@ -10,10 +10,10 @@ use Rattle.model.specs.Bench.{Row, Outcome, outcome, sheet, replaced}
 
 -- Every row: the writer's whole answer, every byte of the buffer, and the table read back.
 sheet-holds : map (λ (r : Row). outcome (r .given)) sheet ≡ map (λ (r : Row). r .gives) sheet
-unfolding bitsOf signedOf bytesOf eventsFrom rowsFrom freeId run writerGood readerGood writeVerdict writeCall writeBuffer runVerdict runCall
+unfolding bitsOf signedOf recordBytes bytesOf eventsFrom lay rowsFrom freeId run writerGood readerGood writeVerdict writeCall writeBuffer runVerdict runCall
 sheet-holds = refl
 
 -- A replaced id is not free within its own frame.
 replaced-holds : outcome (replaced .given) ≡ replaced .gives
-unfolding bitsOf signedOf bytesOf eventsFrom rowsFrom freeId run writerGood readerGood writeVerdict writeCall writeBuffer runVerdict runCall
+unfolding bitsOf signedOf recordBytes bytesOf eventsFrom lay rowsFrom freeId run writerGood readerGood writeVerdict writeCall writeBuffer runVerdict runCall
 replaced-holds = refl

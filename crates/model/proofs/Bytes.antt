@@ -15,7 +15,7 @@ use Rattle.model.proofs.Tables.{good-records}
 use Rattle.model.proofs.Codes.{Tellable, tells, goodAt, Good, AllGood, sending-good}
 use Rattle.model.proofs.ReadsBack.{reads-back}
 use Rattle.model.specs.Numbers.{betweenZ}
-use Rattle.model.specs.Panel.{Field, Panel, carried, allCarried, tellable}
+use Rattle.model.specs.Panel.{Field, Panel, carried, allCarried, fieldCodes, tellable}
 use Rattle.model.specs.Table.{Table, fits, idsDiffer, goodTable}
 use Rattle.model.specs.Events.{Event}
 use Rattle.model.specs.Records.{bitsOf, signedOf, lowBytes, recordBytes, eventBytes, bytesOf, join16, join32, eventAt, eventsFrom, eventsOf, lay}
@@ -43,10 +43,10 @@ bits-below (negsuc n) h = omega arith
 
 -- ---- one record
 
-two : (n : ℕ) → n < 65_536 → n % 256 + 256 * (n / 256 % 256) ≡ n
+pub two : (n : ℕ) → n < 65_536 → n % 256 + 256 * (n / 256 % 256) ≡ n
 two n h = omega arith
 
-four : (n : ℕ) → n < 4_294_967_296 → n % 256 + 256 * (n / 256 % 256) + 65_536 * (n / 256 / 256 % 256) + 16_777_216 * (n / 256 / 256 / 256 % 256) ≡ n
+pub four : (n : ℕ) → n < 4_294_967_296 → n % 256 + 256 * (n / 256 % 256) + 65_536 * (n / 256 / 256 % 256) + 16_777_216 * (n / 256 / 256 / 256 % 256) ≡ n
 four n h = omega arith
 
 -- An event that a record can carry.
@@ -56,6 +56,7 @@ pub record Carried (e : Event) : Type 0 where
   pub value : T (signed32 (e .value))
 
 record-back : (e : Event) (rest : List ℕ) → Carried e → eventAt (eventBytes e ++ rest) 0 ≡ e
+unfolding recordBytes
 record-back e rest h = rw (two (e .type) (h .type), two (e .code) (h .code), four (bitsOf (e .value)) (bits-below (e .value) (h .value)), signed-bits (e .value) (h .value))
 
 -- A record behind other bytes is the record at their end.
@@ -76,13 +77,13 @@ AllCarried (e ∷ es) = Carried e × AllCarried es
 
 -- Every event has eight bytes.
 pub bytes-length : (es : List Event) → length (bytesOf es) ≡ 8 * length es
-unfolding bytesOf
+unfolding bytesOf recordBytes
 bytes-length [] = refl
 bytes-length (e ∷ es) = omega (arith, bytes-length es)
 
 -- Events written behind other bytes are read there, whatever follows them.
 pub events-behind : (es : List Event) (before rest : List ℕ) → AllCarried es → eventsFrom (length es) (before ++ (bytesOf es ++ rest)) (length before) ≡ es
-unfolding bytesOf eventsFrom
+unfolding bytesOf eventsFrom recordBytes
 events-behind [] before rest h = refl
 events-behind (e ∷ es) before rest h =
     let whole : before ++ ((eventBytes e ++ bytesOf es) ++ rest) ≡ (before ++ eventBytes e) ++ (bytesOf es ++ rest) =
@@ -104,6 +105,7 @@ decoded es h =
 
 -- The part of a buffer that bytes were laid on is these bytes.
 pub laid-part : (at : ℕ) (bs buf : List ℕ) → at ≤ length buf → take (length bs) (drop at (lay at bs buf)) ≡ bs
+unfolding lay
 laid-part at bs buf l =
     ap (take (length bs)) (drop-at (take at buf) (bs ++ drop (at + length bs) buf) at (length-take-le at buf l)) ∙ take-at bs (drop (at + length bs) buf) (length bs) refl
 
@@ -124,7 +126,7 @@ inside low high v a b h =
     (leZ-trans (negsuc 2_147_483_647) low v (both-left (leZ (negsuc 2_147_483_647) low) _ a) (both-left (leZ low v) _ h))
     (leZ-trans v high (pos 2_147_483_647) (both-right (leZ low v) _ h) (both-right (leZ (negsuc 2_147_483_647) high) _ b))
 
-number-carried : (fs : List Field) (i : ℕ) (v : ℤ) → T (allCarried fs) → T (goodAt fs i v) → (codeOf fs i < 65_536) × T (signed32 v)
+number-carried : (fs : List Field) (i : ℕ) (v : ℤ) → T (allCarried fs) → T (goodAt fs i v) → (codeOf (fieldCodes fs) i < 65_536) × T (signed32 v)
 number-carried [] i v c g = absurd g
 number-carried (f ∷ fs) zero v c g =
     let here = both-left (carried f) (allCarried fs) c in
@@ -132,12 +134,12 @@ number-carried (f ∷ fs) zero v c g =
     (ltb→lt (f .code) 65_536 (both-left (ltb (f .code) 65_536) _ x), inside (f .low) (f .high) v (both-right (ltb (f .code) 65_536) _ x) (both-right (ltb (f .code) 65_536 && signed32 (f .low)) _ here) g)
 number-carried (f ∷ fs) (suc i) v c g = number-carried fs i v (both-right (carried f) (allCarried fs) c) g
 
-sent-carried : (p : Panel) → Tellable p → (x : Sent) → Good (p .fields) (p .slots) x → Carried (eventOf (p .fields) x)
+sent-carried : (p : Panel) → Tellable p → (x : Sent) → Good (p .fields) (p .slots) x → Carried (eventOf (fieldCodes (p .fields)) x)
 sent-carried p w (sendSlot k) g = record { type = omega arith; code = omega arith; value = le→leb k 2_147_483_647 (omega (arith, ltb→lt k (p .slots) g, w .few)) }
 sent-carried p w (sendNumber i v) g = record { type = omega arith; code = number-carried (p .fields) i v (w .carries) g .0; value = number-carried (p .fields) i v (w .carries) g .1 }
 sent-carried p w sendReport g = record { type = omega arith; code = omega arith; value = tt }
 
-all-carried : (p : Panel) → Tellable p → (xs : List Sent) → AllGood (p .fields) (p .slots) xs → AllCarried (map (eventOf (p .fields)) xs)
+all-carried : (p : Panel) → Tellable p → (xs : List Sent) → AllGood (p .fields) (p .slots) xs → AllCarried (map (eventOf (fieldCodes (p .fields))) xs)
 all-carried p w [] g = tt
 all-carried p w (x ∷ xs) g = (sent-carried p w x (g .0), all-carried p w xs (g .1))
 

@@ -40,16 +40,16 @@ good-append fs n (x ∷ xs) ys g k = (g .0, good-append fs n xs ys (g .1) k)
 
 -- ---- there and back
 
-unlisted-at : (c : ℕ) (fs : List Field) (i : ℕ) (v : ℤ) → T (unlisted c (fieldCodes fs)) → T (goodAt fs i v) → T (not (eqb (codeOf fs i) c))
+unlisted-at : (c : ℕ) (fs : List Field) (i : ℕ) (v : ℤ) → T (unlisted c (fieldCodes fs)) → T (goodAt fs i v) → T (not (eqb (codeOf (fieldCodes fs) i) c))
 unlisted-at c [] i v a g = absurd g
 unlisted-at c (f ∷ fs) zero v a g = both-left (not (eqb (f .code) c)) (unlisted c (fieldCodes fs)) a
 unlisted-at c (f ∷ fs) (suc i) v a g = unlisted-at c fs i v (both-right (not (eqb (f .code) c)) (unlisted c (fieldCodes fs)) a) g
 
-number-back : (fs : List Field) (i : ℕ) (v : ℤ) → T (codesDiffer (fieldCodes fs)) → T (goodAt fs i v) → numberAct fs (codeOf fs i) v ≡ number i v
+number-back : (fs : List Field) (i : ℕ) (v : ℤ) → T (codesDiffer (fieldCodes fs)) → T (goodAt fs i v) → numberAct fs (codeOf (fieldCodes fs) i) v ≡ number i v
 number-back [] i v a g = absurd g
 number-back (f ∷ fs) zero v a g = rw (is-true (eqb (f .code) (f .code)) (eqb-refl (f .code)), is-true (fits f v) g)
 number-back (f ∷ fs) (suc i) v a g =
-    rw (is-false (eqb (codeOf fs i) (f .code)) (unlisted-at (f .code) fs i v (both-left (unlisted (f .code) (fieldCodes fs)) (codesDiffer (fieldCodes fs)) a) g))
+    rw (is-false (eqb (codeOf (fieldCodes fs) i) (f .code)) (unlisted-at (f .code) fs i v (both-left (unlisted (f .code) (fieldCodes fs)) (codesDiffer (fieldCodes fs)) a) g))
     (ap later (number-back fs i v (both-right (unlisted (f .code) (fieldCodes fs)) (codesDiffer (fieldCodes fs)) a) g))
 
 -- The parts of `tellable`.
@@ -72,15 +72,15 @@ tells p w =
       carries = both-right (few && differ) _ w;
     }
 
-back : (p : Panel) → Tellable p → (x : Sent) → Good (p .fields) (p .slots) x → classify p (eventOf (p .fields) x) ≡ asks x
+back : (p : Panel) → Tellable p → (x : Sent) → Good (p .fields) (p .slots) x → classify p (eventOf (fieldCodes (p .fields)) x) ≡ asks x
 back p w (sendSlot k) g = rw (is-true (ltb k (p .slots)) g)
 back p w (sendNumber i v) g =
-    rw (is-false (eqb (codeOf (p .fields) i) slotCode) (unlisted-at slotCode (p .fields) i v (w .slotApart) g))
+    rw (is-false (eqb (codeOf (fieldCodes (p .fields)) i) slotCode) (unlisted-at slotCode (p .fields) i v (w .slotApart) g))
     (number-back (p .fields) i v (w .codesApart) g)
 back p w sendReport g = refl
 
 -- The events of what may be sent ask for just that.
-pub all-back : (p : Panel) → Tellable p → (xs : List Sent) → AllGood (p .fields) (p .slots) xs → map (classify p) (map (eventOf (p .fields)) xs) ≡ map asks xs
+pub all-back : (p : Panel) → Tellable p → (xs : List Sent) → AllGood (p .fields) (p .slots) xs → map (classify p) (map (eventOf (fieldCodes (p .fields))) xs) ≡ map asks xs
 all-back p w [] g = refl
 all-back p w (x ∷ xs) g = ap₂ {C = List Act} (λ y ys. y ∷ ys) (back p w x (g .0)) (all-back p w xs (g .1))
 

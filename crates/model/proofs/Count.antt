@@ -9,7 +9,7 @@ use lib.ListN.{length, getD, length-append, length-map}
 use borrow.Author.Tests.{eqb-true, eqb-false}
 use Rattle.model.proofs.Bools.{is-true, eqZ-refl}
 use Rattle.model.specs.Numbers.{eqZ}
-use Rattle.model.specs.Panel.{Panel}
+use Rattle.model.specs.Panel.{Panel, fieldCodes}
 use Rattle.model.specs.Table.{Slot, Table}
 use Rattle.model.specs.Sending.{Sent, sendNumber, sendReport, unless, changes, opened, allChanges, otherChanges, body, closed, sending, eventOf, eventsSent, oneUnless, sameSlot, changedIn, changedNumbers, changedSlots, changedOthers, fewest}
 
@@ -117,7 +117,7 @@ sending-count c old new = length-closed (body c old new) ∙ by-numbers (length 
 
 -- None if no number changes; else one, one for each changed number, and one for each changed slot other than the current.
 pub event-count : (p : Panel) (c : ℕ) (old new : Table) → length (eventsSent p c old new) ≡ fewest c old new
-event-count p c old new = length-map (sending c old new) (eventOf (p .fields)) ∙ sending-count c old new
+event-count p c old new = length-map (sending c old new) (eventOf (fieldCodes (p .fields))) ∙ sending-count c old new
 
 -- ---- a table against itself
 

@@ -22,7 +22,7 @@ lowBytes zero x = []
 lowBytes (suc k) x = x % 256 ∷ lowBytes k (x / 256)
 
 -- The eight bytes of a record, from its type, its code and the bits of its value.
-abbrev pub recordBytes : ℕ → ℕ → ℕ → List ℕ
+unfoldable pub recordBytes : ℕ → ℕ → ℕ → List ℕ
 recordBytes t c v = lowBytes 2 t ++ lowBytes 2 c ++ lowBytes 4 v
 
 -- The eight bytes of an event.
@@ -61,5 +61,5 @@ abbrev pub eventsOf : List ℕ → List Event
 eventsOf s = eventsFrom (length s / 8) s 0
 
 -- A buffer with bytes laid over it from a position on; all other bytes stay. The bytes have room there.
-abbrev pub lay : ℕ → List ℕ → List ℕ → List ℕ
+unfoldable pub lay : ℕ → List ℕ → List ℕ → List ℕ
 lay at bs old = take at old ++ (bs ++ drop (at + length bs) old)

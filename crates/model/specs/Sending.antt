@@ -6,7 +6,7 @@ use lib.Dec.{eqb}
 use lib.IntN.{ℤ, pos}
 use lib.ListN.{getD}
 use Rattle.model.specs.Numbers.{eqZ}
-use Rattle.model.specs.Panel.{Field, Panel, slotCode}
+use Rattle.model.specs.Panel.{Panel, slotCode, fieldCodes}
 use Rattle.model.specs.Table.{Slot, Table}
 use Rattle.model.specs.Events.{Event}
 
@@ -73,21 +73,21 @@ currentAfter c old new = lastOpened c (sending c old new)
 
 -- ---- as events
 
--- The code of field i. (0 past the last field: nothing sent names such a one.)
-abbrev pub codeOf : List Field → ℕ → ℕ
+-- The code of field i, of the fields' codes. (0 past the last field: nothing sent names such a one.)
+abbrev pub codeOf : List ℕ → ℕ → ℕ
 codeOf [] i = 0
-codeOf (f ∷ fs) zero = f .code
-codeOf (f ∷ fs) (suc i) = codeOf fs i
+codeOf (c ∷ codes) zero = c
+codeOf (c ∷ codes) (suc i) = codeOf codes i
 
--- The event of what is sent; SYN_REPORT has the value 0.
-abbrev pub eventOf : List Field → Sent → Event
-eventOf fs (sendSlot k) = record { type = 3; code = slotCode; value = pos k }
-eventOf fs (sendNumber i v) = record { type = 3; code = codeOf fs i; value = v }
-eventOf fs sendReport = record { type = 0; code = 0; value = pos 0 }
+-- The event of what is sent, by the fields' codes; SYN_REPORT has the value 0.
+abbrev pub eventOf : List ℕ → Sent → Event
+eventOf codes (sendSlot k) = record { type = 3; code = slotCode; value = pos k }
+eventOf codes (sendNumber i v) = record { type = 3; code = codeOf codes i; value = v }
+eventOf codes sendReport = record { type = 0; code = 0; value = pos 0 }
 
 -- The events of a frame that turns the old table into the new one.
 abbrev pub eventsSent : Panel → ℕ → Table → Table → List Event
-eventsSent p c old new = map (eventOf (p .fields)) (sending c old new)
+eventsSent p c old new = map (eventOf (fieldCodes (p .fields))) (sending c old new)
 
 -- ---- what changed
 

@@ -1,0 +1,20 @@
+-- `panel::slot_unused` tells whether a record is unused. Assumes nothing.
+use borrow.Author.Needs.{needs}
+use Rattle.panel.proofs.slot_unused.Statement.{statement}
+use Rattle.panel.proofs.slot_unused.Tie as tie
+use Rattle.panel.proofs.slot_unused.Reads as reads
+use Rattle.panel.proofs.slot_unused.Lts as lts
+use Rattle.panel.proofs.Slot.unused.Reads as unused-reads
+use Rattle.panel.proofs.slots_same.Reads as slots-same-reads
+
+unused-requires : tie.Need-unused-requires
+unused-requires c κs = search needs
+
+slots-same-requires : tie.Need-slots-same-requires
+slots-same-requires c κs = search needs
+
+returns : tie.Need-returns
+returns c = rw (c .before .unused .ensures) at (c .slots-same .ensures)
+
+pub slot-unused-spec : {M : Type 1} → statement M
+slot-unused-spec = tie.close (tie.spec unused-requires slots-same-requires returns)

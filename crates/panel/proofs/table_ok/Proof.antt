@@ -1,0 +1,86 @@
+-- `panel::table_ok` tells whether a table's records are good. The loop has passed i good records. Assumes nothing.
+use borrow.Author.Needs.{needs}
+use mathlib.Core.Path.{_≡_, refl, sym, ap, _∙_}
+use mathlib.Core.Bool.{Bool, true, false, _&&_}
+use mathlib.Core.List.{map}
+use Prim.Native.Nat.{ℕ, _≤_, _<_, _-_, _+_}
+use native.Mathlib.Omega.{arith}
+use lib.ListN.{drop, getD, length, length-map, List·getD-map}
+use borrow.Author.Tests.{not-true, not-false}
+use Rattle.model.specs.Table.{goodPlace, goodRecords}
+use Rattle.panel.specs.Seen.{slotOf, tableOf, fieldsOf, blank}
+use Rattle.panel.proofs.Tables.{records-step, records-end}
+use Rattle.panel.proofs.table_ok.Statement.{statement}
+use Rattle.panel.proofs.table_ok.Tie as tie
+use Rattle.panel.proofs.table_ok.Reads as reads
+use Rattle.panel.proofs.table_ok.Lts as lts
+use Rattle.panel.proofs.place_ok.Reads as place-ok-reads
+
+abbrev Inv-loop : tie.InvT-loop
+Inv-loop setup t i₀ i = (i ≤ 16) × (goodRecords (fieldsOf setup) (setup .n) (tableOf t) ≡ goodRecords (fieldsOf setup) (setup .n - i) (drop i (tableOf t)))
+
+abbrev μ-loop : tie.MeasureT-loop
+μ-loop setup t i₀ i = 16 - i
+
+step : (c : tie.After-place-ok Inv-loop μ-loop)
+    → goodRecords (fieldsOf (c .before .before .before .before .args .setup)) (c .before .before .before .before .args .setup .n) (tableOf (c .before .before .before .before .args .t2))
+    ≡ (c .place-ok .result && goodRecords (fieldsOf (c .before .before .before .before .args .setup)) (c .before .before .before .before .args .setup .n - (c .before .before .before .loop .i + 1)) (drop (c .before .before .before .loop .i + 1) (tableOf (c .before .before .before .before .args .t2))))
+step c =
+    let u = c .before .before .before .before .args .setup in
+    let t = c .before .before .before .before .args .t2 in
+    let i = c .before .before .before .loop .i in
+    let len : length t ≡ 16 = search needs in
+    let inside : i < length (tableOf t) = simp (length-map, len) (search needs) in
+    let at : getD (tableOf t) i (slotOf blank) ≡ slotOf (getD t i blank) = List·getD-map slotOf t i blank in
+    let e : c .place-ok .result ≡ goodPlace (fieldsOf u) (u .n - i) (getD (tableOf t) i (slotOf blank)) = c .place-ok .ensures ∙ ap (goodPlace (fieldsOf u) (u .n - i)) (sym at) in
+    c .before .before .before .loop .inv .1 ∙ records-step (fieldsOf u) (u .n) (tableOf t) i (slotOf blank) inside ∙ ap (λ b. b && goodRecords (fieldsOf u) (u .n - (i + 1)) (drop (i + 1) (tableOf t))) (sym e)
+
+loop-holds : tie.Need-loop-holds Inv-loop μ-loop
+loop-holds c =
+    let n = c .args .setup .n in
+    let z : n - 0 ≡ n = omega arith in
+    (search needs, rw z)
+
+mul-place-ok : tie.Need-mul-place-ok Inv-loop μ-loop
+mul-place-ok c = search needs
+
+array-copy-out-place-ok : tie.Need-array-copy-out-place-ok Inv-loop μ-loop
+array-copy-out-place-ok c = search needs
+
+place-ok-requires : tie.Need-place-ok-requires Inv-loop μ-loop
+place-ok-requires c κs = search needs
+
+returns : tie.Need-returns Inv-loop μ-loop
+returns c = sym (rw (not-true (c .before .place-ok .result) (c .if1 .taken)) at (step (c .before)))
+
+add-i : tie.Need-add-i Inv-loop μ-loop
+add-i c = search needs
+
+loop-less : tie.Need-loop-less Inv-loop μ-loop
+loop-less c = search needs
+
+loop-again : tie.Need-loop-again Inv-loop μ-loop
+loop-again c = (search needs, rw (not-false (c .before .place-ok .result) (c .if1 .left)) at (step (c .before)))
+
+returns-2 : tie.Need-returns-2 Inv-loop μ-loop
+returns-2 c =
+    let u = c .before .before .args .setup in
+    let t = c .before .before .args .t2 in
+    let len : length t ≡ 16 = search needs in
+    sym (c .before .loop .inv .1 ∙ records-end (fieldsOf u) (u .n) (tableOf t) (c .before .loop .i) (slotOf blank) (simp (length-map, len) (search needs)) (search needs))
+
+pub table-ok-spec : {M : Type 1} → statement M
+table-ok-spec =
+    tie.close
+    (tie.spec
+    Inv-loop
+    μ-loop
+    loop-holds
+    mul-place-ok
+    array-copy-out-place-ok
+    place-ok-requires
+    returns
+    add-i
+    loop-less
+    loop-again
+    returns-2)

@@ -1,0 +1,16 @@
+-- `panel::unused_table` is sixteen unused records. Assumes nothing.
+use borrow.Author.Needs.{needs}
+use Rattle.panel.proofs.unused_table.Statement.{statement}
+use Rattle.panel.proofs.unused_table.Tie as tie
+use Rattle.panel.proofs.unused_table.Reads as reads
+use Rattle.panel.proofs.unused_table.Lts as lts
+use Rattle.panel.proofs.Slot.unused.Reads as unused-reads
+
+unused-requires : tie.Need-unused-requires
+unused-requires c κs = search needs
+
+returns : tie.Need-returns
+returns c = rw (c .unused .ensures)
+
+pub unused-table-spec : {M : Type 1} → statement M
+unused-table-spec = tie.close (tie.spec unused-requires returns)

@@ -1,0 +1,105 @@
+-- The code's slots, tables, setups and verdicts as the model's, and back. Every code crate's contracts go through it. Assumes nothing.
+use mathlib.Core.List.{List, [], _∷_, map}
+use Prim.Native.Nat.{ℕ}
+use lib.IntN.{ℤ, pos, negsuc}
+use lib.ListN.{getD, replicate}
+use Rattle.model.specs.Numbers.{minusOne}
+use Rattle.model.specs.Panel as P
+use Rattle.model.specs.Table as T
+use Rattle.model.specs.Frame as F
+use Rattle.model.specs.Calls as C
+use Rattle.panel.specs.declared.Slot.{Slot}
+use Rattle.panel.specs.declared.Setup.{Setup}
+use Rattle.panel.specs.declared.Verdict.{Verdict}
+use Rattle.panel.specs.declared.Verdict.the-variants as W
+
+-- ---- slots and tables
+
+-- A slot's four numbers, the id first.
+abbrev pub slotOf : Slot → T.Slot
+slotOf s = s .id .0 ∷ pos (s .x) ∷ pos (s .y) ∷ pos (s .pressure) ∷ []
+
+-- All records of a table.
+abbrev pub tableOf : List Slot → T.Table
+tableOf t = map slotOf t
+
+-- A number that is not negative; 0 for any other.
+abbrev pub natural : ℤ → ℕ
+natural (pos n) = n
+natural (negsuc n) = 0
+
+-- The slot that holds four numbers; a number that is missing counts as 0.
+abbrev pub slotFrom : T.Slot → Slot
+slotFrom s = record { id = record { 0 = getD s 0 (pos 0) }; x = natural (getD s 1 (pos 0)); y = natural (getD s 2 (pos 0)); pressure = natural (getD s 3 (pos 0)) }
+
+-- The table of such slots.
+abbrev pub tableFrom : T.Table → List Slot
+tableFrom t = map slotFrom t
+
+-- What stands for a slot past an array's end.
+abbrev pub blank : Slot
+blank = record { id = record { 0 = pos 0 }; x = 0; y = 0; pressure = 0 }
+
+-- A record that was never used.
+abbrev pub unused : Slot
+unused = record { id = record { 0 = minusOne }; x = 0; y = 0; pressure = 0 }
+
+-- Sixteen of them.
+abbrev pub unusedAll : List Slot
+unusedAll = replicate 16 unused
+
+-- Sixteen records of zeros.
+abbrev pub zeros : List Slot
+zeros = replicate 16 blank
+
+-- ---- setups
+
+-- A setup's numbers.
+abbrev pub setupOf : Setup → P.Setup
+setupOf u = record { slots = u .n; largest = u .x ∷ u .y ∷ u .pressure ∷ [] }
+
+-- The setup of such numbers; a largest value that is missing counts as 0.
+abbrev pub setupFrom : P.Setup → Setup
+setupFrom u = record { n = u .slots; x = getD (u .largest) 0 0; y = getD (u .largest) 1 0; pressure = getD (u .largest) 2 0 }
+
+-- The panel of a setup, in document 01's layout.
+abbrev pub panelSeen : Setup → P.Panel
+panelSeen u = P.panelOf P.base (setupOf u)
+
+-- A slot's fields: id, x, y and pressure.
+abbrev pub fieldsOf : Setup → List P.Field
+fieldsOf u = panelSeen u .fields
+
+-- The fields after the id.
+abbrev pub axesOf : Setup → List P.Field
+axesOf u = F.axesOf (fieldsOf u)
+
+-- ---- verdicts
+
+-- A verdict's name.
+abbrev pub verdictOf : Verdict → C.Verdict
+verdictOf W.Accepted = C.accepted
+verdictOf W.Setup = C.setup
+verdictOf W.State = C.state
+verdictOf W.Frame = C.frame
+verdictOf W.Value = C.value
+verdictOf W.NoRoom = C.noRoom
+verdictOf W.Ragged = C.ragged
+verdictOf W.NotStale = C.notStale
+verdictOf W.Image = C.image
+
+-- The verdict of such a name.
+abbrev pub verdictFrom : C.Verdict → Verdict
+verdictFrom C.accepted = W.Accepted
+verdictFrom C.setup = W.Setup
+verdictFrom C.state = W.State
+verdictFrom C.frame = W.Frame
+verdictFrom C.value = W.Value
+verdictFrom C.noRoom = W.NoRoom
+verdictFrom C.ragged = W.Ragged
+verdictFrom C.notStale = W.NotStale
+verdictFrom C.image = W.Image
+
+-- Document 01's number of a verdict; 0 for accepted.
+abbrev pub verdictNumber : Verdict → ℕ
+verdictNumber v = C.verdictNumber (verdictOf v)

@@ -1,0 +1,4 @@
+-- Laws on bits and on buffers.
+pub mod Bits
+pub mod Over
+pub mod RoundTrip

@@ -1,0 +1,2 @@
+-- A record as the model's event.
+pub mod Seen

@@ -1,0 +1,83 @@
+// Event records: one read from a lent slice, one written to the start of a lent part. The reader and the writer stand on it.
+ghost use mathlib.Core.Path.{_≡_};
+ghost use Prim.Native.Nat.{_+_, _≤_};
+ghost use lib.ListN.{length};
+ghost use Rattle.model.specs.Records.{bitsOf, recordBytes, eventAt, join16 as joined16, join32 as joined32};
+ghost use Rattle.records.specs.Seen.{eventOf, over};
+
+// A record's bytes.
+pub const LENGTH: usize = 8;
+
+// Types and codes that document 01 lists.
+pub const SYN: u16 = 0;
+
+pub const ABS: u16 = 3;
+
+pub const REPORT: u16 = 0;
+
+pub const DROPPED: u16 = 3;
+
+pub const SLOT: u16 = 0x2f;
+
+pub const POSITION_X: u16 = 0x35;
+
+pub const POSITION_Y: u16 = 0x36;
+
+pub const TRACKING_ID: u16 = 0x39;
+
+pub const PRESSURE: u16 = 0x3a;
+
+// The value is held as its 32 bits: a reader tests ranges on them, and -1 is the largest number.
+pub struct Event {
+    pub kind: u32,
+    pub code: u32,
+    pub value: u32,
+}
+
+fn join16(a: u8, b: u8) -> u32
+    ensures { λ r. ⌜ r ≡ joined16 a b ⌝ }
+{
+    (a as u32) + 256 * (b as u32)
+}
+
+fn join32(a: u8, b: u8, c: u8, d: u8) -> u32
+    ensures { λ r. ⌜ r ≡ joined32 a b c d ⌝ }
+{
+    (a as u32) + 256 * (b as u32) + 65536 * (c as u32) + 16777216 * (d as u32)
+}
+
+// The record whose first byte stands at `at`.
+pub fn record_at(s: &[u8], at: usize) -> Event
+    requires { ⌜ at + 8 ≤ length (now s) ⌝ }
+    ensures { λ r. ⌜ eventOf r ≡ eventAt (now (s .entry)) at ⌝ }
+{
+    let kind = join16(s[at], s[at + 1]);
+    let code = join16(s[at + 2], s[at + 3]);
+    let value = join32(s[at + 4], s[at + 5], s[at + 6], s[at + 7]);
+    Event { kind, code, value }
+}
+
+// The bits of a number in two's complement.
+pub fn bits_of(z: i32) -> u32
+    ensures { λ r. ⌜ r ≡ bitsOf z ⌝ }
+{
+    if 0 <= z {
+        return z as u32;
+    }
+    0xffff_ffff - (!z as u32)
+}
+
+// A record's bytes at the start of `b`; the others stay.
+pub fn put(b: &mut [u8], kind: u16, code: u16, value: u32)
+    requires { ⌜ 8 ≤ length (now b) ⌝ }
+    ensures { λ _. ⌜ now (b .exit) ≡ over (recordBytes kind code value) (now (b .entry)) ⌝ }
+{
+    b[0] = (kind % 256) as u8;
+    b[1] = (kind / 256 % 256) as u8;
+    b[2] = (code % 256) as u8;
+    b[3] = (code / 256 % 256) as u8;
+    b[4] = (value % 256) as u8;
+    b[5] = (value / 256 % 256) as u8;
+    b[6] = (value / 256 / 256 % 256) as u8;
+    b[7] = (value / 256 / 256 / 256 % 256) as u8;
+}
