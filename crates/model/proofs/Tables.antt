@@ -7,7 +7,7 @@ use native.Mathlib.Omega.{arith}
 use lib.Dec.{T, eqb, eqb→eq, eqb-refl}
 use lib.IntN.{ℤ, pos, negsuc}
 use lib.ListN.{length, getD, set, replicate, length-map, length-replicate}
-use Rattle.model.proofs.Bools.{both, both-left, both-right, eqZ→eq, eqZ-refl}
+use Rattle.model.proofs.Bools.{is-true, both, both-left, both-right, eqZ→eq, eqZ-refl}
 use Rattle.model.specs.Numbers.{eqZ}
 use Rattle.model.specs.Panel.{Field, Panel}
 use Rattle.model.specs.Table.{Slot, Table, fits, goodSlot, unusedSlot, eqSlot, eqTable, goodPlace, goodRecords, goodTable}
@@ -136,3 +136,24 @@ unused-good fs zero zero l g = tt
 unused-good fs (suc n) zero l g = absurd (omega arith)
 unused-good fs zero (suc m) l g = both (eqSlot (unusedSlot fs) (unusedSlot fs)) _ (eqSlot-self (unusedSlot fs)) (unused-good fs zero m (omega arith) g)
 unused-good fs (suc n) (suc m) l g = both (goodSlot fs (unusedSlot fs)) _ g (unused-good fs n m (omega arith) g)
+
+unused-past : (fs : List Field) (m : ℕ) → goodRecords fs zero (replicate m (unusedSlot fs)) ≡ true
+unused-past fs zero = refl
+unused-past fs (suc m) = rw (is-true (eqSlot (unusedSlot fs) (unusedSlot fs)) (eqSlot-self (unusedSlot fs))) (unused-past fs m)
+
+-- Unused records after the panel's slots make no difference.
+pub good-pad : (fs : List Field) (n m : ℕ) (t : Table) → length t ≡ n → goodRecords fs n (t ++ replicate m (unusedSlot fs)) ≡ goodRecords fs n t
+good-pad fs zero m [] e = unused-past fs m
+good-pad fs zero m (s ∷ t) e = absurd (omega arith)
+good-pad fs (suc n) m [] e = absurd (omega arith)
+good-pad fs (suc n) m (s ∷ t) e = ap (λ b. goodSlot fs s && b) (good-pad fs n m t (omega arith))
+
+-- ---- lists that are mapped
+
+pub map-append : {A B : Type 0} (f : A → B) (a b : List A) → map f (a ++ b) ≡ map f a ++ map f b
+map-append f [] b = refl
+map-append f (x ∷ a) b = ap (λ l. f x ∷ l) (map-append f a b)
+
+pub map-replicate : {A B : Type 0} (f : A → B) (n : ℕ) (x : A) → map f (replicate n x) ≡ replicate n (f x)
+map-replicate f zero x = refl
+map-replicate f (suc n) x = ap (λ l. f x ∷ l) (map-replicate f n x)

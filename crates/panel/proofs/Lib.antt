@@ -3,3 +3,4 @@ pub mod Signs
 pub mod Slots
 pub mod Tables
 pub mod Back
+pub mod Setups

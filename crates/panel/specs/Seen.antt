@@ -28,9 +28,9 @@ abbrev pub natural : ℤ → ℕ
 natural (pos n) = n
 natural (negsuc n) = 0
 
--- The slot that holds four numbers; a number that is missing counts as 0.
+-- The slot that holds four numbers; a number that is missing counts as 0, a missing id as unused.
 abbrev pub slotFrom : T.Slot → Slot
-slotFrom s = record { id = record { 0 = getD s 0 (pos 0) }; x = natural (getD s 1 (pos 0)); y = natural (getD s 2 (pos 0)); pressure = natural (getD s 3 (pos 0)) }
+slotFrom s = record { id = record { 0 = T.idOf s }; x = natural (getD s 1 (pos 0)); y = natural (getD s 2 (pos 0)); pressure = natural (getD s 3 (pos 0)) }
 
 -- The table of such slots.
 abbrev pub tableFrom : T.Table → List Slot

@@ -29,15 +29,15 @@ pub const PRESSURE: u16 = 0x3a;
 
 // The value is held as its 32 bits: a reader tests ranges on them, and -1 is the largest number.
 pub struct Event {
-    pub kind: u32,
-    pub code: u32,
+    pub kind: u16,
+    pub code: u16,
     pub value: u32,
 }
 
-fn join16(a: u8, b: u8) -> u32
+fn join16(a: u8, b: u8) -> u16
     ensures { λ r. ⌜ r ≡ joined16 a b ⌝ }
 {
-    (a as u32) + 256 * (b as u32)
+    (a as u16) + 256 * (b as u16)
 }
 
 fn join32(a: u8, b: u8, c: u8, d: u8) -> u32

@@ -1,0 +1,2 @@
+-- The laws behind the acts.
+pub mod Values

@@ -1,0 +1,70 @@
+-- The raw 32 bits of a value, by the ranges of a good setup. Cited by the proofs here. Assumes nothing.
+use mathlib.Core.Path.{_≡_, refl, sym, ap, _∙_}
+use mathlib.Core.Bool.{Bool, true, false, cond, _&&_}
+use Prim.Native.Nat.{ℕ, _-_, _≤_, _<_, _^_}
+use native.Mathlib.Omega.{arith}
+use lib.Dec.{ltb}
+use lib.IntN.{ℤ, pos, negsuc}
+use borrow.Author.Tests.{lt-ltb, le-ltb, le-leb, lt-leb, ltb-true, ltb-false}
+use Rattle.model.specs.Numbers.{betweenZ}
+use Rattle.model.specs.Panel.{idField}
+use Rattle.model.specs.Table.{fits}
+use Rattle.model.specs.Events.{bad, slot, number, slotAct, absAct}
+use Rattle.model.specs.Records.{signedOf}
+use Rattle.panel.specs.Seen.{panelSeen}
+use Rattle.panel.specs.declared.Setup.{Setup}
+use Rattle.panel.proofs.Setups.{Small}
+
+pub small-signed : (v : ℕ) → v < 2_147_483_648 → signedOf v ≡ pos v
+unfolding signedOf
+small-signed v l = rw (lt-ltb v 2_147_483_648 l)
+
+pub large-signed : (v : ℕ) → 2_147_483_648 ≤ v → signedOf v ≡ negsuc (4_294_967_295 - v)
+unfolding signedOf
+large-signed v l = rw (le-ltb v 2_147_483_648 l)
+
+-- By whether a value's bits are those of a negative number.
+by-sign : (P : ℤ → Type 0) (v : ℕ) → (v < 2_147_483_648 → P (pos v)) → (2_147_483_648 ≤ v → P (negsuc (4_294_967_295 - v))) → P (signedOf v)
+by-sign P v f g = go (ltb v 2_147_483_648) refl
+  where
+    go : (b : Bool) → ltb v 2_147_483_648 ≡ b → P (signedOf v)
+    go true e = let l : v < 2_147_483_648 = ltb-true v 2_147_483_648 e in rw (small-signed v l) (f l)
+    go false e = let l : 2_147_483_648 ≤ v = ltb-false v 2_147_483_648 e in rw (large-signed v l) (g l)
+
+fits-not : (top v : ℕ) → top < v → betweenZ (pos 0) (pos top) (signedOf v) ≡ false
+fits-not top v l = by-sign (λ z. betweenZ (pos 0) (pos top) z ≡ false) v (λ m. rw (le-leb 0 v (omega arith), lt-leb v top l)) (λ m. refl)
+
+pub slot-in : (n v : ℕ) → v < n → n ≤ 16 → slotAct n (signedOf v) ≡ slot v
+slot-in n v l m = rw (small-signed v (omega arith), lt-ltb v n l)
+
+pub slot-out : (n v : ℕ) → n ≤ v → slotAct n (signedOf v) ≡ bad
+slot-out n v l = by-sign (λ z. slotAct n z ≡ bad) v (λ m. rw (le-ltb v n l)) (λ m. refl)
+
+pub id-small : (v : ℕ) → v ≤ 65_535 → cond (fits idField (signedOf v)) (number 0 (signedOf v)) bad ≡ number 0 (pos v)
+id-small v l = rw (small-signed v (omega arith), le-leb v 65_535 l)
+
+pub id-none : cond (fits idField (signedOf 4_294_967_295)) (number 0 (signedOf 4_294_967_295)) bad ≡ number 0 (negsuc 0)
+unfolding signedOf
+id-none = refl
+
+pub id-not : (v : ℕ) → 65_535 < v → (v ≡ 4_294_967_295 → ⊥) → v < 2 ^ 32 → cond (fits idField (signedOf v)) (number 0 (signedOf v)) bad ≡ bad
+id-not v l d m = by-sign (λ z. cond (fits idField z) (number 0 z) bad ≡ bad) v (λ q. rw (lt-leb v 65_535 l)) (λ q. rw (lt-leb (4_294_967_295 - v) 0 (omega arith)))
+
+module _ (u : Setup) (s : Small u) (v : ℕ) where
+  pub x-in : v ≤ u .x → absAct (panelSeen u) 0x35 (signedOf v) ≡ number 1 (pos v)
+  x-in l = rw (small-signed v (omega arith), le-leb 0 v (omega arith), le-leb v (u .x) l)
+
+  pub y-in : v ≤ u .y → absAct (panelSeen u) 0x36 (signedOf v) ≡ number 2 (pos v)
+  y-in l = rw (small-signed v (omega arith), le-leb 0 v (omega arith), le-leb v (u .y) l)
+
+  pub pressure-in : v ≤ u .pressure → absAct (panelSeen u) 0x3a (signedOf v) ≡ number 3 (pos v)
+  pressure-in l = rw (small-signed v (omega arith), le-leb 0 v (omega arith), le-leb v (u .pressure) l)
+
+  pub x-out : u .x < v → absAct (panelSeen u) 0x35 (signedOf v) ≡ bad
+  x-out l = rw (fits-not (u .x) v l)
+
+  pub y-out : u .y < v → absAct (panelSeen u) 0x36 (signedOf v) ≡ bad
+  y-out l = rw (fits-not (u .y) v l)
+
+  pub pressure-out : u .pressure < v → absAct (panelSeen u) 0x3a (signedOf v) ≡ bad
+  pressure-out l = rw (fits-not (u .pressure) v l)

@@ -1,0 +1,61 @@
+-- `acts::abs_act`: what an event of type 3 asks, by its code. Assumes nothing.
+use borrow.Author.Needs.{needs}
+use mathlib.Core.Path.{_≡_, refl, sym, ap, _∙_}
+use Rattle.panel.proofs.Setups.{small}
+use borrow.Author.Tests.{eq-eqb, ne-eqb}
+use Rattle.acts.proofs.Values.{x-in, x-out, y-in, y-out, pressure-in, pressure-out}
+use Rattle.acts.proofs.abs_act.Statement.{statement}
+use Rattle.acts.proofs.abs_act.Tie as tie
+use Rattle.acts.proofs.abs_act.Reads as reads
+use Rattle.acts.proofs.abs_act.Lts as lts
+use Rattle.acts.proofs.id_act.Reads as id-act-reads
+use Rattle.acts.proofs.slot_act.Reads as slot-act-reads
+
+slot-act-requires : tie.Need-slot-act-requires
+slot-act-requires c κs = small (c .before .args .setup) (c .before .pre) .n
+
+returns : tie.Need-returns
+returns c = rw (c .before .if1 .taken) (c .slot-act .ensures)
+
+id-act-requires : tie.Need-id-act-requires
+id-act-requires c κs = search needs
+
+returns-2 : tie.Need-returns-2
+returns-2 c = rw (c .before .if2 .taken) (c .id-act .ensures)
+
+returns-3 : tie.Need-returns-3
+returns-3 c = rw (c .before .before .if3 .taken) (sym (x-in (c .before .before .before .before .before .args .setup) (small (c .before .before .before .before .before .args .setup) (c .before .before .before .before .before .pre)) (c .before .before .before .before .before .args .value) (c .if4 .taken)))
+
+returns-4 : tie.Need-returns-4
+returns-4 c = rw (c .before .before .if3 .taken) (sym (x-out (c .before .before .before .before .before .args .setup) (small (c .before .before .before .before .before .args .setup) (c .before .before .before .before .before .pre)) (c .before .before .before .before .before .args .value) (c .if4 .left)))
+
+returns-5 : tie.Need-returns-5
+returns-5 c = rw (c .before .before .if5 .taken) (sym (y-in (c .before .before .before .before .before .before .args .setup) (small (c .before .before .before .before .before .before .args .setup) (c .before .before .before .before .before .before .pre)) (c .before .before .before .before .before .before .args .value) (c .if6 .taken)))
+
+returns-6 : tie.Need-returns-6
+returns-6 c = rw (c .before .before .if5 .taken) (sym (y-out (c .before .before .before .before .before .before .args .setup) (small (c .before .before .before .before .before .before .args .setup) (c .before .before .before .before .before .before .pre)) (c .before .before .before .before .before .before .args .value) (c .if6 .left)))
+
+returns-7 : tie.Need-returns-7
+returns-7 c = rw (c .before .before .if7 .taken) (sym (pressure-in (c .before .before .before .before .before .before .before .args .setup) (small (c .before .before .before .before .before .before .before .args .setup) (c .before .before .before .before .before .before .before .pre)) (c .before .before .before .before .before .before .before .args .value) (c .if8 .taken)))
+
+returns-8 : tie.Need-returns-8
+returns-8 c = rw (c .before .before .if7 .taken) (sym (pressure-out (c .before .before .before .before .before .before .before .args .setup) (small (c .before .before .before .before .before .before .before .args .setup) (c .before .before .before .before .before .before .before .pre)) (c .before .before .before .before .before .before .before .args .value) (c .if8 .left)))
+
+returns-9 : tie.Need-returns-9
+returns-9 c = rw (ne-eqb _ 0x2f (c .before .before .before .before .if1 .left), ne-eqb _ 0x39 (c .before .before .before .if2 .left), ne-eqb _ 0x35 (c .before .before .if3 .left), ne-eqb _ 0x36 (c .before .if5 .left), ne-eqb _ 0x3a (c .if7 .left))
+
+pub abs-act-spec : {M : Type 1} → statement M
+abs-act-spec =
+    tie.close
+    (tie.spec
+    slot-act-requires
+    returns
+    id-act-requires
+    returns-2
+    returns-3
+    returns-4
+    returns-5
+    returns-6
+    returns-7
+    returns-8
+    returns-9)

@@ -1,0 +1,2 @@
+-- The code's acts as the model's.
+pub mod Seen

@@ -1,0 +1,106 @@
+// What a record asks of a reader: the one place where the code knows event codes and ranges. The reader's loop stands on it.
+ghost use mathlib.Core.Path.{_≡_};
+ghost use mathlib.Core.Bool.{true, cond};
+ghost use Prim.Native.Nat.{_≤_};
+ghost use Rattle.model.specs.Panel.{base, setupGood, idField};
+ghost use Rattle.model.specs.Table.{fits};
+ghost use Rattle.model.specs.Events.{bad, number, slotAct, synAct, absAct, classify};
+ghost use Rattle.model.specs.Records.{signedOf};
+ghost use Rattle.panel.specs.Seen.{setupOf, panelSeen};
+ghost use Rattle.records.specs.Seen.{eventOf};
+ghost use Rattle.acts.specs.Seen.{actOf};
+
+// A good number comes as what is stored: the id signed, the others not.
+pub enum Act {
+    Skip,
+    Bad,
+    Report,
+    Loss,
+    Select(usize),
+    Id(i32),
+    X(u32),
+    Y(u32),
+    Pressure(u32),
+}
+
+fn syn_act(code: u16) -> Act
+    ensures { λ r. ⌜ actOf r ≡ synAct code ⌝ }
+{
+    if code == records::REPORT {
+        return Act::Report;
+    }
+    if code == records::DROPPED {
+        return Act::Loss;
+    }
+    Act::Skip
+}
+
+// A negative value has the bits of a number far above every n, so one comparison judges it.
+fn slot_act(n: usize, value: u32) -> Act
+    requires { ⌜ n ≤ 16 ⌝ }
+    ensures { λ r. ⌜ actOf r ≡ slotAct n (signedOf value) ⌝ }
+{
+    let k = value as usize;
+    if k < n {
+        return Act::Select(k);
+    }
+    Act::Bad
+}
+
+fn id_act(value: u32) -> Act
+    ensures { λ r. ⌜ actOf r ≡ cond (fits idField (signedOf value)) (number 0 (signedOf value)) bad ⌝ }
+{
+    if value == 4294967295 {
+        return Act::Id(panel::TrackingId::UNUSED);
+    }
+    if value <= 65535 {
+        return Act::Id(value as i32);
+    }
+    Act::Bad
+}
+
+fn abs_act(setup: panel::Setup, code: u16, value: u32) -> Act
+    requires { ⌜ setupGood base (setupOf setup) ≡ true ⌝ }
+    ensures { λ r. ⌜ actOf r ≡ absAct (panelSeen setup) code (signedOf value) ⌝ }
+{
+    if code == records::SLOT {
+        return slot_act(setup.n, value);
+    }
+    if code == records::TRACKING_ID {
+        return id_act(value);
+    }
+    if code == records::POSITION_X {
+        if value <= setup.x {
+            return Act::X(value);
+        }
+        return Act::Bad;
+    }
+    if code == records::POSITION_Y {
+        if value <= setup.y {
+            return Act::Y(value);
+        }
+        return Act::Bad;
+    }
+    if code == records::PRESSURE {
+        if value <= setup.pressure {
+            return Act::Pressure(value);
+        }
+        return Act::Bad;
+    }
+    Act::Skip
+}
+
+// What a record asks of a reader of this setup.
+pub fn act_of(setup: panel::Setup, e: records::Event) -> Act
+    requires { ⌜ setupGood base (setupOf setup) ≡ true ⌝ }
+    ensures { λ r. ⌜ actOf r ≡ classify (panelSeen setup) (eventOf e) ⌝ }
+{
+    let kind = e.kind;
+    if kind == records::SYN {
+        return syn_act(e.code);
+    }
+    if kind == records::ABS {
+        return abs_act(setup, e.code, e.value);
+    }
+    Act::Skip
+}

@@ -1,0 +1,96 @@
+-- An image's rows one by one, and the table as it is filled. Cited by the proofs here. Assumes nothing.
+use mathlib.Core.Path.{_≡_, refl, sym, ap, ap₂, _∙_}
+use mathlib.Core.Bool.{Bool, true, false, _&&_}
+use mathlib.Core.List.{List, [], _∷_, _++_, map, append-assoc}
+use Prim.Native.Nat.{ℕ, zero, suc, _+_, _-_, _*_, _≤_, _<_}
+use native.Mathlib.Omega.{arith}
+use lib.Dec.{eqb}
+use lib.IntN.{ℤ, pos}
+use lib.ListN.{length, getD, set, replicate, length-append, length-map, length-replicate}
+use lib.Seq.{set-at}
+use borrow.Author.Tests.{eq-eqb}
+use Rattle.model.specs.Panel.{Field}
+use Rattle.model.specs.Table as T
+use Rattle.model.specs.Frame.{numbersFrom, rowsFrom, rowsOf}
+use Rattle.model.specs.Calls.{imageTable}
+use Rattle.model.proofs.Calls.{length-rowsFrom}
+use Rattle.model.proofs.Tables.{good-pad, map-append, map-replicate}
+use Rattle.panel.specs.Seen.{slotOf, tableOf, slotFrom, tableFrom, fieldsOf, panelSeen, unused, unusedAll}
+use Rattle.panel.specs.declared.Slot.{Slot}
+use Rattle.panel.specs.declared.Setup.{Setup}
+
+-- ---- the rows
+
+pub four : (l : List ℤ) (i : ℕ) → numbersFrom 4 l (4 * i) ≡ getD l (4 * i) (pos 0) ∷ getD l (4 * i + 1) (pos 0) ∷ getD l (4 * i + 2) (pos 0) ∷ getD l (4 * i + 3) (pos 0) ∷ []
+four l i =
+    let a : 4 * i + 1 + 1 ≡ 4 * i + 2 = omega arith in
+    let b : 4 * i + 2 + 1 ≡ 4 * i + 3 = omega arith in
+    rw (a, b)
+
+pub good-next : (fs : List Field) (l : List ℤ) (n i : ℕ) → i < n
+    → T.goodRecords fs (n - i) (rowsFrom 4 (n - i) l (4 * i)) ≡ (T.goodSlot fs (numbersFrom 4 l (4 * i)) && T.goodRecords fs (n - (i + 1)) (rowsFrom 4 (n - (i + 1)) l (4 * (i + 1))))
+unfolding rowsFrom
+good-next fs l n i h =
+    let m : n - i ≡ suc (n - (i + 1)) = omega arith in
+    let e : 4 * (i + 1) ≡ 4 * i + 4 = omega arith in
+    rw (m, e)
+
+pub good-end : (fs : List Field) (l : List ℤ) (n i : ℕ) → n ≤ i → T.goodRecords fs (n - i) (rowsFrom 4 (n - i) l (4 * i)) ≡ true
+unfolding rowsFrom
+good-end fs l n i h =
+    let m : n - i ≡ 0 = omega arith in
+    rw m
+
+-- ---- the table as it is filled
+
+rows-snoc : (i : ℕ) (l : List ℤ) (at : ℕ) → rowsFrom 4 (suc i) l at ≡ rowsFrom 4 i l at ++ (numbersFrom 4 l (at + 4 * i) ∷ [])
+unfolding rowsFrom
+rows-snoc zero l at = let z : at + 4 * 0 ≡ at = omega arith in rw z
+rows-snoc (suc i) l at =
+    let e : at + 4 + 4 * i ≡ at + 4 * suc i = omega arith in
+    ap {B = T.Table} (λ t. numbersFrom 4 l at ∷ t) (rw e at (rows-snoc i l (at + 4)))
+
+-- i slots filled
+abbrev pub filled : List ℤ → ℕ → List Slot
+filled l i = tableFrom (rowsFrom 4 i l 0) ++ replicate (16 - i) unused
+
+pub filled-start : (l : List ℤ) → unusedAll ≡ filled l 0
+unfolding rowsFrom
+filled-start l = refl
+
+pub filled-next : (l : List ℤ) (i : ℕ) → i < 16 → set (filled l i) i (slotFrom (numbersFrom 4 l (4 * i))) ≡ filled l (i + 1)
+filled-next l i h =
+    let m : 16 - i ≡ suc (16 - (i + 1)) = omega arith in
+    let s : i + 1 ≡ suc i = omega arith in
+    let z : 0 + 4 * i ≡ 4 * i = omega arith in
+    let a = tableFrom (rowsFrom 4 i l 0) in
+    let x = slotFrom (numbersFrom 4 l (4 * i)) in
+    let r = replicate (16 - (i + 1)) unused in
+    let n : length a ≡ i = length-map (rowsFrom 4 i l 0) slotFrom ∙ length-rowsFrom 4 i l 0 in
+    let p : set (a ++ (unused ∷ r)) i x ≡ a ++ (x ∷ r) = set-at a unused r x i n in
+    let q : a ++ (x ∷ r) ≡ (a ++ (x ∷ [])) ++ r = sym (append-assoc a (x ∷ []) r) in
+    let t : tableFrom (rowsFrom 4 (suc i) l 0) ≡ a ++ (x ∷ []) = ap tableFrom (rw z at (rows-snoc i l 0)) ∙ map-append slotFrom (rowsFrom 4 i l 0) (numbersFrom 4 l (4 * i) ∷ []) in
+    ap (λ k. set (a ++ replicate k unused) i x) m ∙ p ∙ q ∙ ap (λ w. w ++ r) (sym t) ∙ ap (λ k. tableFrom (rowsFrom 4 k l 0) ++ r) (sym s)
+
+pub filled-end : (u : Setup) (l : List ℤ) → filled l (u .n) ≡ tableFrom (imageTable (panelSeen u) l)
+filled-end u l =
+    let t = rowsFrom 4 (u .n) l 0 in
+    sym (map-append slotFrom t (replicate (16 - u .n) (T.unusedSlot (fieldsOf u))) ∙ ap (λ w. tableFrom t ++ w) (map-replicate slotFrom (16 - u .n) (T.unusedSlot (fieldsOf u))))
+
+-- ---- the image's tests
+
+-- Good rows make a good table.
+pub image-records : (u : Setup) (l : List ℤ) → u .n ≤ 16 → T.goodTable (panelSeen u) (imageTable (panelSeen u) l) ≡ T.goodRecords (fieldsOf u) (u .n) (rowsFrom 4 (u .n) l 0)
+image-records u l h =
+    let t = rowsFrom 4 (u .n) l 0 in
+    let m = replicate (16 - u .n) (T.unusedSlot (fieldsOf u)) in
+    let n : length (t ++ m) ≡ 16 = omega (arith, length-append t m, length-rowsFrom 4 (u .n) l 0, length-replicate (16 - u .n) (T.unusedSlot (fieldsOf u))) in
+    ap₂ (λ a b. a && b) (eq-eqb (length (t ++ m)) 16 n) (good-pad (fieldsOf u) (u .n) (16 - u .n) t (length-rowsFrom 4 (u .n) l 0))
+
+ids-same : (t : T.Table) → T.ids (tableOf (tableFrom t)) ≡ T.ids t
+ids-same [] = refl
+ids-same (s ∷ t) = ap {B = List ℤ} (λ l. T.idOf s ∷ l) (ids-same t)
+
+-- The table that the code makes has the image's ids.
+pub ids-held : (t : T.Table) → T.idsDiffer (tableOf (tableFrom t)) ≡ T.idsDiffer t
+ids-held t = ap T.liveDiffer (ids-same t)

@@ -1,0 +1,2 @@
+-- The laws behind the image's functions.
+pub mod Images

@@ -1,0 +1,58 @@
+-- `image::image_ok` tells whether an image may be loaded: its length, its rows, its ids, the current slot. Assumes nothing.
+use borrow.Author.Needs.{needs}
+use mathlib.Core.Path.{_≡_, sym, ap, _∙_}
+use Prim.Native.Nat.{_≤_}
+use borrow.Author.Tests.{not-true, not-false, ne-eqb, eq-eqb}
+use Rattle.model.specs.Table.{goodTable, idsDiffer}
+use Rattle.model.specs.Calls.{imageTable}
+use Rattle.panel.specs.Seen.{panelSeen, tableOf}
+use Rattle.image.proofs.Images.{image-records, ids-held}
+use Rattle.image.proofs.image_ok.Statement.{statement}
+use Rattle.image.proofs.image_ok.Tie as tie
+
+rows-are : (c : tie.After-rows-ok) → c .rows-ok .result ≡ goodTable (panelSeen (c .before .before .before .args .setup)) (imageTable (panelSeen (c .before .before .before .args .setup)) (c .before .before .before .args .image .now))
+rows-are c = c .rows-ok .ensures ∙ sym (image-records (c .before .before .before .args .setup) (c .before .before .before .args .image .now) (c .before .before .before .pre))
+
+ids-are : (c : tie.After-ids-differ) → c .ids-differ .result ≡ idsDiffer (imageTable (panelSeen (c .before .before .before .before .before .before .args .setup)) (c .before .before .before .before .before .before .args .image .now))
+ids-are c = c .ids-differ .ensures ∙ ap (λ t. idsDiffer (tableOf t)) (c .before .image-table .ensures) ∙ ids-held (imageTable (panelSeen (c .before .before .before .before .before .before .args .setup)) (c .before .before .before .before .before .before .args .image .now))
+
+mul-if1 : tie.Need-mul-if1
+mul-if1 c = search needs
+
+returns : tie.Need-returns
+returns c = rw (ne-eqb _ _ (c .if1 .taken))
+
+rows-ok-requires : tie.Need-rows-ok-requires
+rows-ok-requires c κs = search needs
+
+returns-2 : tie.Need-returns-2
+returns-2 c = rw (eq-eqb _ _ (c .before .before .if1 .left), ← rows-are (c .before), not-true (c .before .rows-ok .result) (c .if2 .taken))
+
+image-table-requires : tie.Need-image-table-requires
+image-table-requires c κs = search needs
+
+ids-differ-requires : tie.Need-ids-differ-requires
+ids-differ-requires c κs = search needs
+
+returns-3 : tie.Need-returns-3
+returns-3 c =
+    let rows = c .before .before .before .before in
+    rw (eq-eqb _ _ (rows .before .if1 .left), ← rows-are rows, not-false (rows .rows-ok .result) (c .before .before .before .if2 .left), ← ids-are (c .before), not-true (c .before .ids-differ .result) (c .if3 .taken))
+
+returns-4 : tie.Need-returns-4
+returns-4 c =
+    let rows = c .before .before .before .before .before in
+    rw (eq-eqb _ _ (rows .before .if1 .left), ← rows-are rows, not-false (rows .rows-ok .result) (c .before .before .before .before .if2 .left), ← ids-are (c .before .before), not-false (c .before .before .ids-differ .result) (c .before .if3 .left))
+
+pub image-ok-spec : {M : Type 1} → statement M
+image-ok-spec =
+    tie.close
+    (tie.spec
+    mul-if1
+    returns
+    rows-ok-requires
+    returns-2
+    image-table-requires
+    ids-differ-requires
+    returns-3
+    returns-4)

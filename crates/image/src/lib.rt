@@ -1,0 +1,87 @@
+// A load's image: four signed numbers for each slot, judged and made a table. The reader's `load` stands on it.
+ghost use mathlib.Core.Path.{_≡_};
+ghost use mathlib.Core.List.{_∷_, []};
+ghost use Prim.Native.Nat.{_≤_, _*_};
+ghost use lib.ListN.{length};
+ghost use Rattle.model.specs.Table.{goodSlot, goodRecords};
+ghost use Rattle.model.specs.Frame.{rowsFrom};
+ghost use Rattle.model.specs.Calls.{imageTable, imageGood};
+ghost use Rattle.panel.specs.Seen.{slotFrom, tableFrom, fieldsOf, panelSeen};
+
+// The numbers must be good: a negative one would become 0.
+fn slot_of(id: i32, x: i32, y: i32, pressure: i32) -> panel::Slot
+    ensures { λ r. ⌜ r ≡ slotFrom (id ∷ x ∷ y ∷ pressure ∷ []) ⌝ }
+{
+    panel::Slot {
+        id: panel::TrackingId(id),
+        x: panel::nat_of(x),
+        y: panel::nat_of(y),
+        pressure: panel::nat_of(pressure),
+    }
+}
+
+fn row_ok(setup: panel::Setup, id: i32, x: i32, y: i32, pressure: i32) -> bool
+    ensures { λ r. ⌜ r ≡ goodSlot (fieldsOf setup) (id ∷ x ∷ y ∷ pressure ∷ []) ⌝ }
+{
+    if !panel::id_ok(id) {
+        return false;
+    }
+    panel::numbers_ok(setup, x, y, pressure)
+}
+
+// Whether every number is in its range.
+fn rows_ok(setup: panel::Setup, image: &[i32]) -> bool
+    requires { ⌜ (setup .n ≤ 16) × (length (now image) ≡ 4 * setup .n) ⌝ }
+    ensures { λ r. ⌜ r ≡ goodRecords (fieldsOf setup) (setup .n) (rowsFrom 4 (setup .n) (now (image .entry)) 0) ⌝ }
+{
+    let n = setup.n;
+    let mut i: usize = 0;
+    while i < n {
+        let at = 4 * i;
+        if !row_ok(
+            setup,
+            image[at],
+            image[at + 1],
+            image[at + 2],
+            image[at + 3],
+        ) {
+            return false;
+        }
+        i += 1;
+    }
+    true
+}
+
+// The image's slots, and unused records from n up.
+pub fn image_table(setup: panel::Setup, image: &[i32]) -> [panel::Slot; panel::RECORDS]
+    requires { ⌜ (setup .n ≤ 16) × (length (now image) ≡ 4 * setup .n) ⌝ }
+    ensures { λ r. ⌜ r ≡ tableFrom (imageTable (panelSeen setup) (now (image .entry))) ⌝ }
+{
+    let n = setup.n;
+    let mut t = panel::unused_table();
+    let mut i: usize = 0;
+    while i < n {
+        let at = 4 * i;
+        let s = slot_of(image[at], image[at + 1], image[at + 2], image[at + 3]);
+        t[i] = s;
+        i += 1;
+    }
+    t
+}
+
+// Whether an image may be loaded, with this current slot.
+pub fn image_ok(setup: panel::Setup, image: &[i32], current: usize) -> bool
+    requires { ⌜ setup .n ≤ 16 ⌝ }
+    ensures { λ r. ⌜ r ≡ imageGood (panelSeen setup) (now (image .entry)) current ⌝ }
+{
+    if image.len() != 4 * setup.n {
+        return false;
+    }
+    if !rows_ok(setup, image) {
+        return false;
+    }
+    if !panel::ids_differ(image_table(setup, image)) {
+        return false;
+    }
+    current < setup.n
+}

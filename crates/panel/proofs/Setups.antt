@@ -1,0 +1,42 @@
+-- The bounds that a good setup gives. Cited by the reader's and the writer's crates. Assumes nothing.
+use mathlib.Core.Path.{_≡_, sym, subst}
+use mathlib.Core.Bool.{Bool, true, _&&_}
+use Prim.Native.Nat.{ℕ, _≤_, _<_}
+use lib.Dec.{T, leb, leb→le}
+use Rattle.model.specs.Numbers.{between}
+use Rattle.model.specs.Panel.{base, setupGood}
+use Rattle.model.proofs.Bools.{both-left, both-right}
+use Rattle.panel.specs.declared.Setup.{Setup}
+use Rattle.panel.specs.Seen.{setupOf}
+
+pub holds : (b : Bool) → b ≡ true → T b
+holds b e = subst T (sym e) tt
+
+-- The bounds of a good setup's numbers.
+pub record Small (u : Setup) : Type 0 where
+  pub some : 0 < u .n
+  pub n : u .n ≤ 16
+  pub x : u .x ≤ 32_767
+  pub y : u .y ≤ 32_767
+  pub pressure : u .pressure ≤ 255
+
+at-most : (v top : ℕ) → T (between 1 top v) → v ≤ top
+at-most v top t = leb→le v top (both-right (leb 1 v) (leb v top) t)
+
+pub small : (u : Setup) → setupGood base (setupOf u) ≡ true → Small u
+small u e =
+    let a = between 1 16 (u .n) in
+    let b = between 1 32_767 (u .x) in
+    let c = between 1 32_767 (u .y) in
+    let d = between 1 255 (u .pressure) in
+    let g = holds (a && (b && (c && (d && true)))) e in
+    let h = both-right a (b && (c && (d && true))) g in
+    let i = both-right b (c && (d && true)) h in
+    let n = both-left a (b && (c && (d && true))) g in
+    record {
+      some = leb→le 1 (u .n) (both-left (leb 1 (u .n)) (leb (u .n) 16) n);
+      n = at-most (u .n) 16 n;
+      x = at-most (u .x) 32_767 (both-left b (c && (d && true)) h);
+      y = at-most (u .y) 32_767 (both-left c (d && true) i);
+      pressure = at-most (u .pressure) 255 (both-left d true (both-right c (d && true) i));
+    }
