@@ -7,6 +7,7 @@ pub mod Follow
 pub mod Codes
 pub mod ReadsBack
 pub mod Count
+pub mod Counts
 pub mod Lost
 pub mod Least
 pub mod Ids
@@ -17,4 +18,5 @@ pub mod Ones
 pub mod Bytes
 pub mod Layouts
 pub mod Calls
+pub mod Answers
 pub mod Instances

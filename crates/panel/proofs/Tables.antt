@@ -10,9 +10,11 @@ use lib.ListN.{drop, getD, length, drop-of-length-le, length-map, List·getD-map
 use lib.Seq.{drop-cons}
 use Rattle.model.specs.Numbers.{eqZ, minusOne}
 use Rattle.model.specs.Panel.{Field}
-use Rattle.model.specs.Table.{Slot, Table, live, unheld, liveDiffer, ids, idOf, eqSlot, eqTable, goodPlace, goodRecords}
+use Rattle.model.specs.Table.{Slot, Table, live, unheld, liveDiffer, ids, idOf, eqSlot, eqTable, goodPlace, goodRecords, goodTable}
 use Rattle.panel.specs.declared.Slot as S
-use Rattle.panel.specs.Seen.{slotOf, tableOf, blank}
+use Rattle.panel.specs.declared.Setup.{Setup}
+use Rattle.panel.specs.Seen.{slotOf, tableOf, fieldsOf, panelSeen, blank}
+use borrow.Author.Tests.{eq-eqb}
 
 module _ (l : List ℤ) (j : ℕ) (d : ℤ) where
   pub unheld-step : (v : ℤ) → j < length l → unheld v (drop j l) ≡ (not (eqZ v (getD l j d)) && unheld v (drop (j + 1) l))
@@ -74,3 +76,19 @@ module _ (t : List S.Slot) (i : ℕ) where
 
   pub unheld-over : (v : ℤ) → length t ≤ i → unheld v (drop i (ids (tableOf t))) ≡ true
   unheld-over v h = unheld-end (ids (tableOf t)) i (pos 0) v (simp length-map h)
+
+-- ---- a table that the code holds
+
+-- The length of an array that is a field is known of its mapped list.
+pub unmapped : (A B : Type 0) (f : A → B) (l : List A) (n : ℕ) → length (map f l) ≡ n → length l ≡ n
+unmapped A B f l n e = sym (length-map l f) ∙ e
+
+-- It has sixteen records, so only they have to be good.
+pub table-good : (u : Setup) (t : List S.Slot) → length t ≡ 16 → goodTable (panelSeen u) (tableOf t) ≡ goodRecords (fieldsOf u) (u .n) (tableOf t)
+table-good u t e = rw (eq-eqb (length (tableOf t)) 16 (length-map t slotOf ∙ e))
+
+-- The slot that the code reads.
+pub slot-at : (t : List S.Slot) (k : ℕ) → k < length t → getD (tableOf t) k [] ≡ slotOf (getD t k blank)
+slot-at [] k h = absurd (omega arith)
+slot-at (s ∷ t) zero h = refl
+slot-at (s ∷ t) (suc k) h = slot-at t k (omega arith)

@@ -1,0 +1,15 @@
+-- `reader::kept`: the answer of a run that never lost track. Assumes nothing.
+use borrow.Author.Needs.{needs}
+use Rattle.reader.proofs.Turns.{kept-answer}
+use Rattle.reader.proofs.kept.Statement.{statement}
+use Rattle.reader.proofs.kept.Tie as tie
+use Rattle.reader.proofs.kept.Reads as reads
+use Rattle.reader.proofs.kept.Lts as lts
+
+returns : tie.Need-returns
+returns c =
+    let a = c .args in
+    kept-answer (a .setup) (a .shown) (a .pending) (a .current) (a .frames) (a .skipped)
+
+pub kept-spec : {M : Type 1} → statement M
+kept-spec = tie.close (tie.spec returns)
