@@ -1,21 +1,20 @@
 -- An image's rows one by one, and the table as it is filled. Cited by the proofs here. Assumes nothing.
 use mathlib.Core.Path.{_≡_, refl, sym, ap, ap₂, _∙_}
-use mathlib.Core.Bool.{Bool, true, false, _&&_}
-use mathlib.Core.List.{List, [], _∷_, _++_, map, append-assoc}
+use mathlib.Core.Bool.{true, _&&_}
+use mathlib.Core.List.{List, [], _∷_, _++_, append-assoc}
 use Prim.Native.Nat.{ℕ, zero, suc, _+_, _-_, _*_, _≤_, _<_}
 use native.Mathlib.Omega.{arith}
-use lib.Dec.{eqb}
 use lib.IntN.{ℤ, pos}
 use lib.ListN.{length, getD, set, replicate, length-append, length-map, length-replicate}
 use lib.Seq.{set-at}
 use borrow.Author.Tests.{eq-eqb}
 use Rattle.model.specs.Panel.{Field}
 use Rattle.model.specs.Table as T
-use Rattle.model.specs.Frame.{numbersFrom, rowsFrom, rowsOf}
+use Rattle.model.specs.Frame.{numbersFrom, rowsFrom}
 use Rattle.model.specs.Calls.{imageTable}
 use Rattle.model.proofs.Calls.{length-rowsFrom}
 use Rattle.model.proofs.Tables.{good-pad, map-append, map-replicate}
-use Rattle.panel.specs.Seen.{slotOf, tableOf, slotFrom, tableFrom, fieldsOf, panelSeen, unused, unusedAll}
+use Rattle.panel.specs.Seen.{tableOf, slotFrom, tableFrom, fieldsOf, panelSeen, unused, unusedAll}
 use Rattle.panel.specs.declared.Slot.{Slot}
 use Rattle.panel.specs.declared.Setup.{Setup}
 

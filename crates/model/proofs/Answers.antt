@@ -1,18 +1,17 @@
 -- Each call's answer, by the first test that fails: the equations that a code's returns cite. Assumes nothing.
-use mathlib.Core.Path.{_≡_, refl}
-use mathlib.Core.Bool.{Bool, true, false}
+use mathlib.Core.Path.{_≡_}
+use mathlib.Core.Bool.{true, false}
 use mathlib.Core.List.{List, [], _∷_}
 use Prim.Native.Nat.{ℕ, _%_}
 use lib.Dec.{eqb, ltb}
 use lib.IntN.{ℤ}
 use lib.ListN.{length, getD}
 use Rattle.model.specs.Panel.{Layout, Setup, setupGood, panelOf}
-use Rattle.model.specs.Table.{Table}
 use Rattle.model.specs.Events.{Event}
 use Rattle.model.specs.Records.{eventsOf}
 use Rattle.model.specs.Reader.{following, settledAt, run as runOver}
 use Rattle.model.specs.States.{ReaderState, readerGood, freshWriter, freshReader, zeroWriter, zeroReader}
-use Rattle.model.specs.Calls.{accepted, setup, state, ragged, notStale, image, freshWriterCall, freshReaderCall, runVerdict, notRun, ran, runCall, stepCall, isStale, imageTable, imageGood, loadVerdict, loadCall, refused, noSuchSlot, askedIn, asked, askCall}
+use Rattle.model.specs.Calls.{accepted, setup, state, ragged, notStale, image, freshWriterCall, freshReaderCall, runVerdict, notRun, ran, runCall, stepCall, isStale, imageTable, imageGood, loadVerdict, loadCall, refused, noSuchSlot, askedIn, askCall}
 
 module _ (l : Layout) (u : Setup) where
   pub writer-not-made : setupGood l u ≡ false → freshWriterCall l u ≡ record { verdict = setup; state = zeroWriter l }

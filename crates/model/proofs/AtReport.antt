@@ -1,8 +1,5 @@
 -- What is shown changes by a report alone, and then becomes what was pending. Assumes nothing.
 use mathlib.Core.Path.{_≡_, refl}
-use mathlib.Core.Bool.{Bool, true, false}
-use Prim.Native.Nat.{ℕ}
-use lib.IntN.{ℤ}
 use Rattle.model.specs.Events.{Act, skip, bad, report, loss, slot, number}
 use Rattle.model.specs.Reader.{Mode, following, dropped, stale, Reader, stepIn, step}
 

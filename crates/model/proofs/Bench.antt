@@ -1,12 +1,12 @@
 -- The bench sheet: the definitions give every row that is marked P, by computing. Assumes nothing.
 use mathlib.Core.Path.{_≡_, refl}
-use mathlib.Core.List.{List, map}
+use mathlib.Core.List.{map}
 use Rattle.model.specs.Records.{bitsOf, signedOf, recordBytes, bytesOf, eventsFrom, lay}
 use Rattle.model.specs.Frame.{rowsFrom, freeId}
 use Rattle.model.specs.Reader.{run}
 use Rattle.model.specs.States.{writerGood, readerGood}
 use Rattle.model.specs.Calls.{writeVerdict, writeCall, writeBuffer, runVerdict, runCall}
-use Rattle.model.specs.Bench.{Row, Outcome, outcome, sheet, replaced}
+use Rattle.model.specs.Bench.{Row, outcome, sheet, replaced}
 
 -- Every row: the writer's whole answer, every byte of the buffer, and the table read back.
 sheet-holds : map (λ (r : Row). outcome (r .given)) sheet ≡ map (λ (r : Row). r .gives) sheet

@@ -1,6 +1,6 @@
 -- Laws on tests, and on the equality of whole numbers. Cited by nearly every proof here and in the code's crates. Assumes nothing.
 use mathlib.Core.Path.{_≡_, refl, ap}
-use mathlib.Core.Bool.{Bool, true, false, not, _&&_, _||_}
+use mathlib.Core.Bool.{Bool, true, false, not, _&&_}
 use Prim.Native.Nat.{ℕ}
 use lib.Dec.{T, eqb→eq, eqb-refl, not-T}
 use lib.IntN.{ℤ, pos, negsuc}

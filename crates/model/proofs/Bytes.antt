@@ -1,13 +1,13 @@
 -- Event records there and back: what was encoded is decoded, alone and in the middle of a buffer; demand 2 over bytes. Assumes nothing.
-use mathlib.Core.Path.{_≡_, refl, sym, ap, ap₂, _∙_, subst}
-use mathlib.Core.Bool.{Bool, true, false, cond, _&&_}
+use mathlib.Core.Path.{_≡_, refl, sym, ap, ap₂, _∙_}
+use mathlib.Core.Bool.{Bool, _&&_}
 use mathlib.Core.List.{List, [], _∷_, _++_, map, append-assoc}
 use Prim.Native.Nat.{ℕ, zero, suc, _+_, _-_, _*_, _/_, _%_, _≤_, _<_}
 use native.Mathlib.Omega.{arith}
 use lib.Dec.{T, ltb, leb, leb→le, le→leb, ltb→lt}
 use lib.IntN.{ℤ, pos, negsuc}
 use lib.Signed.{leZ}
-use lib.ListN.{length, getD, take, drop, length-append, length-map}
+use lib.ListN.{length, getD, take, drop, length-append}
 use lib.Seq.{getD-append-add, length-take-le, take-at, drop-at}
 use borrow.Author.Tests.{lt-ltb, le-ltb}
 use Rattle.model.proofs.Bools.{both, both-left, both-right}
@@ -16,9 +16,9 @@ use Rattle.model.proofs.Codes.{Tellable, tells, goodAt, Good, AllGood, 
 use Rattle.model.proofs.ReadsBack.{reads-back}
 use Rattle.model.specs.Numbers.{betweenZ}
 use Rattle.model.specs.Panel.{Field, Panel, carried, allCarried, fieldCodes, tellable}
-use Rattle.model.specs.Table.{Table, fits, idsDiffer, goodTable}
+use Rattle.model.specs.Table.{Table, idsDiffer, goodTable}
 use Rattle.model.specs.Events.{Event}
-use Rattle.model.specs.Records.{bitsOf, signedOf, lowBytes, recordBytes, eventBytes, bytesOf, join16, join32, eventAt, eventsFrom, eventsOf, lay}
+use Rattle.model.specs.Records.{bitsOf, signedOf, recordBytes, eventBytes, bytesOf, eventAt, eventsFrom, eventsOf, lay}
 use Rattle.model.specs.Reader.{follow, read}
 use Rattle.model.specs.Sending.{Sent, sendSlot, sendNumber, sendReport, codeOf, eventOf, eventsSent, sending, currentAfter}
 

@@ -1,17 +1,16 @@
 -- The theorems said of the calls: what is accepted and refused, steady, demands 2 and 3, and lost until a load. Assumes nothing.
-use mathlib.Core.Path.{_≡_, refl, sym, ap, ap₂, _∙_, subst}
+use mathlib.Core.Path.{_≡_, refl, sym, ap, _∙_, subst}
 use mathlib.Core.Bool.{Bool, true, false, not, cond, _&&_}
-use mathlib.Core.List.{List, [], _∷_, _++_, map}
-use Prim.Native.Nat.{ℕ, zero, suc, _+_, _*_, _-_, _%_, _≤_, _<_}
+use mathlib.Core.List.{List, [], _∷_}
+use Prim.Native.Nat.{ℕ, zero, suc, _+_, _*_, _-_, _≤_, _<_}
 use native.Mathlib.Omega.{arith}
 use native.Mathlib.Nat.{mul-le-mul-right}
-use lib.Dec.{T, ltb, leb, eqb, ltb→lt, lt→ltb}
-use lib.IntN.{ℤ, pos, negsuc}
-use lib.ListN.{length, getD, replicate, length-append, length-replicate, List·getD-append}
-use Rattle.model.proofs.Bools.{is-true, is-false, both, both-left, both-right}
-use Rattle.model.proofs.Tables.{good-length}
+use lib.Dec.{T, ltb, ltb→lt, lt→ltb}
+use lib.IntN.{ℤ}
+use lib.ListN.{length, getD, replicate, List·getD-append}
+use Rattle.model.proofs.Bools.{is-false, both, both-left, both-right}
 use Rattle.model.proofs.Count.{event-count}
-use Rattle.model.proofs.Lost.{Lost, lost-reads, unknown-after-loss}
+use Rattle.model.proofs.Lost.{Lost, unknown-after-loss}
 use Rattle.model.proofs.ReaderSteady.{SteadyReader, reader-facts, facts-reader, read-steady}
 use Rattle.model.proofs.WriterSteady.{SteadyWriter, writer-facts, facts-writer, rows-steady}
 use Rattle.model.proofs.FreshSteady.{fresh-writer, fresh-reader, setup-slots}
@@ -20,14 +19,14 @@ use Rattle.model.proofs.Bytes.{reads-back-bytes}
 use Rattle.model.proofs.Layouts.{few-records, panel-tellable, fields-length}
 use Rattle.model.specs.Numbers.{between}
 use Rattle.model.specs.Panel.{Layout, Setup, Panel, setupGood, panelOf, goodLayout}
-use Rattle.model.specs.Table.{Slot, Table, idOf, live, idsDiffer, unusedSlot, goodTable}
+use Rattle.model.specs.Table.{idsDiffer, unusedSlot, goodTable}
 use Rattle.model.specs.Events.{Event}
-use Rattle.model.specs.Records.{bytesOf, eventsOf, lay}
-use Rattle.model.specs.Frame.{rowsFrom, rowsOf, sized, valuesGood, newTable}
+use Rattle.model.specs.Records.{bytesOf, eventsOf}
+use Rattle.model.specs.Frame.{rowsFrom, rowsOf, sized, valuesGood}
 use Rattle.model.specs.Sending.{fewest}
-use Rattle.model.specs.Reader.{Mode, following, dropped, stale, Reader, follow, settledAt, Counts, nothing, read, run as runOver}
-use Rattle.model.specs.States.{Writer, WriterState, goodWriter, writerGood, ReaderState, goodReader, readerGood, freshWriter, freshReader, zeroWriter, zeroReader}
-use Rattle.model.specs.Calls.{Verdict, accepted, setup, state, frame, value, noRoom, ragged, notStale, image, verdictNumber, check, isAccepted, freshVerdict, FreshWriter, freshWriterCall, FreshReader, freshReaderCall, writerAfter, frameEvents, needOf, mostEvents, roomFor, writeVerdict, Written, notWritten, taken, writeCall, writeBuffer, runVerdict, Ran, notRun, ran, runCall, stepCall, isStale, imageTable, imageGood, loadVerdict, Loaded, loadCall, Asked, contact, empty, unknown, noSuchSlot, askedIn, asked, askCall}
+use Rattle.model.specs.Reader.{following, stale, follow, settledAt, read, run as runOver}
+use Rattle.model.specs.States.{WriterState, writerGood, ReaderState, readerGood, freshWriter, freshReader, zeroWriter, zeroReader}
+use Rattle.model.specs.Calls.{Verdict, accepted, setup, state, frame, value, noRoom, notStale, image, check, isAccepted, freshVerdict, freshWriterCall, freshReaderCall, writerAfter, frameEvents, needOf, mostEvents, roomFor, writeVerdict, Written, notWritten, writeCall, writeBuffer, runVerdict, Ran, notRun, runCall, stepCall, isStale, imageTable, imageGood, loadVerdict, loadCall, unknown, noSuchSlot, askedIn, asked, askCall}
 
 -- ---- verdicts
 

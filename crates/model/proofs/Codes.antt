@@ -1,20 +1,20 @@
 -- What a writer sends is classified as it was meant, on every panel whose fields can be told apart. Cited by ReadsBack, Bytes and Steady. Assumes nothing.
-use mathlib.Core.Path.{_≡_, refl, sym, ap, ap₂, _∙_, subst}
-use mathlib.Core.Bool.{Bool, true, false, not, cond, _&&_}
+use mathlib.Core.Path.{_≡_, refl, ap, ap₂, subst}
+use mathlib.Core.Bool.{Bool, true, false, not, _&&_}
 use mathlib.Core.List.{List, [], _∷_, _++_, map}
-use Prim.Native.Nat.{ℕ, zero, suc, _+_, _-_, _≤_, _<_}
+use Prim.Native.Nat.{ℕ, zero, suc, _-_, _<_}
 use native.Mathlib.Omega.{arith}
 use lib.Dec.{T, ltb, eqb, eqb-refl, lt→ltb, ltb→lt}
-use lib.IntN.{ℤ, pos, negsuc}
-use lib.ListN.{length, getD}
+use lib.IntN.{ℤ}
+use lib.ListN.{getD}
 use Rattle.model.proofs.Bools.{is-true, is-false, both-left, both-right, eqZ-refl}
 use Rattle.model.proofs.Tables.{same-past, place, places}
 use Rattle.model.proofs.Follow.{asks}
 use Rattle.model.specs.Numbers.{eqZ}
 use Rattle.model.specs.Panel.{Field, Panel, slotCode, unlisted, codesDiffer, allCarried, fieldCodes, tellable}
 use Rattle.model.specs.Table.{Slot, Table, fits, goodSlot, goodPlace, goodRecords}
-use Rattle.model.specs.Events.{Event, Act, number, later, numberAct, classify}
-use Rattle.model.specs.Sending.{Sent, sendSlot, sendNumber, sendReport, unless, changes, opened, allChanges, otherChanges, body, closed, sending, codeOf, eventOf, eventsSent, lastOpened}
+use Rattle.model.specs.Events.{Act, number, later, numberAct, classify}
+use Rattle.model.specs.Sending.{Sent, sendSlot, sendNumber, sendReport, unless, changes, opened, allChanges, otherChanges, body, closed, sending, codeOf, eventOf, lastOpened}
 
 -- ---- what may be sent
 

@@ -1,6 +1,6 @@
 -- Counts add up in any grouping. Cited by the reader's crate and by theorems on runs that are cut. Assumes nothing.
 use mathlib.Core.Path.{_≡_}
-use Prim.Native.Nat.{ℕ, _+_}
+use Prim.Native.Nat.{_+_}
 use native.Mathlib.Omega.{arith}
 use Rattle.model.specs.Reader.{Counts, nothing, plus}
 

@@ -1,7 +1,7 @@
 -- What is sent takes a following reader from the old table to the new one. Cited by ReadsBack and Count. Assumes nothing.
 -- It speaks of what is sent and not of events: codes and ranges are Codes' business.
 use mathlib.Core.Path.{_≡_, refl, sym, ap, ap₂, _∙_}
-use mathlib.Core.Bool.{Bool, true, false, cond}
+use mathlib.Core.Bool.{true, false, cond}
 use mathlib.Core.List.{List, [], _∷_, _++_, map}
 use Prim.Native.Nat.{ℕ, zero, suc}
 use lib.Dec.{T}

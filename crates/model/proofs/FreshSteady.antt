@@ -10,7 +10,6 @@ use Rattle.model.proofs.Tables.{good-table, unused-good}
 use Rattle.model.specs.Numbers.{between}
 use Rattle.model.specs.Panel.{Axis, Layout, Setup, Field, setupGood, axisFields, panelOf}
 use Rattle.model.specs.Table.{idsDiffer, goodSlot, unusedSlot, goodTable}
-use Rattle.model.specs.Events.{slot, number}
 use Rattle.model.specs.States.{freshTable, freshWriter, freshReader}
 use Rattle.model.proofs.ReaderSteady.{SteadyReader}
 use Rattle.model.proofs.WriterSteady.{SteadyWriter}

@@ -1,16 +1,16 @@
 -- The id choice: it exists, it is the first that document 01 allows, it is below 65,536, and it keeps live ids apart. Cited by Steady and the writer's crates. Assumes nothing.
 use mathlib.Core.Path.{_≡_, refl, sym, ap, _∙_, subst}
-use mathlib.Core.Bool.{Bool, true, false, not, cond, _&&_, _||_}
-use mathlib.Core.List.{List, [], _∷_, _++_, map}
-use Prim.Native.Nat.{ℕ, zero, suc, _+_, _-_, _%_, _≤_, _<_}
+use mathlib.Core.Bool.{true, false, not, cond, _&&_, _||_}
+use mathlib.Core.List.{List, [], _∷_}
+use Prim.Native.Nat.{ℕ, zero, suc, _+_, _%_, _≤_, _<_}
 use native.Mathlib.Omega.{arith}
 use lib.Dec.{T, not-T, T-not}
-use lib.IntN.{ℤ, pos, negsuc}
+use lib.IntN.{ℤ, pos}
 use lib.ListN.{length, getD, length-map}
 use Rattle.model.proofs.Bools.{is-true, is-false, both, both-left, both-right, not-both, eqZ→eq, eqZ-refl, apart}
-use Rattle.model.specs.Numbers.{eqZ, minusOne}
+use Rattle.model.specs.Numbers.{eqZ}
 use Rattle.model.specs.Table.{Slot, Table, idOf, numbersOf, live, unheld, liveDiffer, ids, idsDiffer}
-use Rattle.model.specs.Frame.{kindOf, Fate, none, goesOn, begins, fate, next, pick, freeId, slotAfter, takenAfter, counterAfter, tableFrom, counterFrom, newTable, newCounter}
+use Rattle.model.specs.Frame.{kindOf, Fate, none, goesOn, begins, fate, next, pick, freeId, slotAfter, takenAfter, counterAfter, tableFrom, counterFrom, newTable}
 
 -- ---- taking one number out of a list
 

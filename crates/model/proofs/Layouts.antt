@@ -1,16 +1,16 @@
 -- A good setup of a good layout makes a panel whose events can be told apart and carried. Cited by Calls and the code's crates. Assumes nothing.
-use mathlib.Core.Path.{_≡_, refl, sym, ap, _∙_, subst}
-use mathlib.Core.Bool.{Bool, true, false, not, _&&_}
-use mathlib.Core.List.{List, [], _∷_, map}
-use Prim.Native.Nat.{ℕ, suc, _+_, _≤_, _<_}
+use mathlib.Core.Path.{_≡_, refl, sym, ap, subst}
+use mathlib.Core.Bool.{_&&_}
+use mathlib.Core.List.{List, [], _∷_}
+use Prim.Native.Nat.{ℕ, suc, _+_, _<_}
 use native.Mathlib.Omega.{arith}
-use lib.Dec.{T, ltb, leb, eqb, ltb→lt, lt→ltb, leb→le, le→leb}
+use lib.Dec.{T, ltb, leb, ltb→lt, lt→ltb, leb→le, le→leb}
 use lib.IntN.{pos, negsuc}
 use lib.ListN.{length}
 use Rattle.model.proofs.Bools.{both, both-left, both-right}
 use Rattle.model.proofs.FreshSteady.{setup-slots}
 use Rattle.model.specs.Numbers.{between, betweenZ}
-use Rattle.model.specs.Panel.{Axis, Layout, Setup, Field, Panel, largestGood, setupGood, idField, axisFields, panelOf, slotCode, unlisted, codesDiffer, carried, allCarried, fieldCodes, tellable, axesCarried, axisCodes, goodLayout}
+use Rattle.model.specs.Panel.{Axis, Layout, Setup, largestGood, setupGood, idField, axisFields, panelOf, slotCode, codesDiffer, carried, allCarried, fieldCodes, tellable, axesCarried, axisCodes, goodLayout}
 
 -- The axes' fields have the axes' codes.
 codes-same : (axes : List Axis) (largest : List ℕ) → T (largestGood axes largest) → fieldCodes (axisFields axes largest) ≡ axisCodes axes

@@ -1,6 +1,6 @@
 -- Demand 3, second half: no shorter list of events, of any kind, takes a following reader to the new table and leaves it following. Assumes nothing.
-use mathlib.Core.Path.{_≡_, refl, ap, _∙_}
-use mathlib.Core.Bool.{Bool, true, false, not, cond}
+use mathlib.Core.Path.{_≡_, refl}
+use mathlib.Core.Bool.{true, false, not, cond}
 use mathlib.Core.List.{List, [], _∷_, map}
 use Prim.Native.Nat.{ℕ, zero, suc, _+_, _≤_, _<_}
 use native.Mathlib.Omega.{arith}
@@ -14,7 +14,7 @@ use Rattle.model.specs.Numbers.{eqZ}
 use Rattle.model.specs.Panel.{Panel}
 use Rattle.model.specs.Table.{Slot, Table, idsDiffer}
 use Rattle.model.specs.Events.{Event, Act, skip, bad, report, loss, slot, number, classify}
-use Rattle.model.specs.Reader.{Mode, following, Reader, follow, reported, onSlot, steps, read}
+use Rattle.model.specs.Reader.{following, follow, reported, onSlot, steps, read}
 use Rattle.model.specs.Sending.{eventsSent, sameSlot, changedIn, changedNumbers, changedSlots, changedOthers, fewest}
 
 -- ---- what one act can do

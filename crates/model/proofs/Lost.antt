@@ -1,14 +1,12 @@
 -- No event leads a reader that lost track back to following, and it answers "unknown" until a load. Cited by Least, Calls and the reader's crate. Assumes nothing.
-use mathlib.Core.Path.{_≡_, refl, sym, ap, _∙_, subst}
-use mathlib.Core.Bool.{Bool, true, false, not, cond}
+use mathlib.Core.Path.{_≡_, refl, sym, subst}
 use mathlib.Core.List.{List, [], _∷_, map}
 use Prim.Native.Nat.{ℕ}
 use lib.Dec.{T, ltb}
-use lib.IntN.{ℤ}
 use lib.ListN.{getD}
 use Rattle.model.proofs.Bools.{is-true}
 use Rattle.model.specs.Panel.{Panel}
-use Rattle.model.specs.Table.{Slot, Table}
+use Rattle.model.specs.Table.{Slot}
 use Rattle.model.specs.Events.{Event, Act, skip, bad, report, loss, slot, number, classify}
 use Rattle.model.specs.Reader.{Mode, following, dropped, stale, Reader, stepIn, step, steps, read}
 use Rattle.model.specs.Calls.{askedIn, asked, unknown}

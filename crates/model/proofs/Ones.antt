@@ -1,6 +1,6 @@
 -- The changed-slot number's ones, and the most events that a frame can have. Cited by Calls and the writer's crates. Assumes nothing.
 use mathlib.Core.Path.{_≡_, refl, ap, ap₂, _∙_, subst}
-use mathlib.Core.Bool.{Bool, true, false, cond}
+use mathlib.Core.Bool.{true, false, cond}
 use mathlib.Core.List.{List, [], _∷_}
 use Prim.Native.Nat.{ℕ, zero, suc, _+_, _*_, _/_, _%_, _-_, _^_, _≤_, _<_}
 use native.Mathlib.Omega.{arith}
@@ -8,8 +8,8 @@ use native.Mathlib.Nat.{suc-mul, pow-suc}
 use lib.Dec.{T, eqb}
 use lib.Count.{ones, ones-step}
 use lib.ListN.{length}
-use Rattle.model.proofs.Bools.{is-true, both-left, both-right, eqZ-refl}
-use Rattle.model.proofs.Tables.{same-past, place, places, good-records}
+use Rattle.model.proofs.Bools.{is-true, both-right, eqZ-refl}
+use Rattle.model.proofs.Tables.{same-past, place, good-records}
 use Rattle.model.proofs.Count.{oneUnless-le, changedIn-self, event-count}
 use Rattle.model.specs.Numbers.{eqZ}
 use Rattle.model.specs.Panel.{Field, Panel}

@@ -1,12 +1,11 @@
 -- Laws on slots and tables: of one size, equal, good, and with one slot changed. Cited by the theorems on reading and writing. Assumes nothing.
 use mathlib.Core.Path.{_≡_, refl, sym, ap, ap₂, _∙_, subst}
-use mathlib.Core.Bool.{Bool, true, false, not, _&&_, _||_}
+use mathlib.Core.Bool.{true, _&&_}
 use mathlib.Core.List.{List, [], _∷_, _++_, map}
-use Prim.Native.Nat.{ℕ, zero, suc, _+_, _-_, _≤_, _<_}
+use Prim.Native.Nat.{ℕ, zero, suc, _-_, _≤_}
 use native.Mathlib.Omega.{arith}
 use lib.Dec.{T, eqb, eqb→eq, eqb-refl}
-use lib.IntN.{ℤ, pos, negsuc}
-use lib.ListN.{length, getD, set, replicate, length-map, length-replicate}
+use lib.ListN.{length, replicate}
 use Rattle.model.proofs.Bools.{is-true, both, both-left, both-right, eqZ→eq, eqZ-refl}
 use Rattle.model.specs.Numbers.{eqZ}
 use Rattle.model.specs.Panel.{Field, Panel}

@@ -2,7 +2,6 @@
 use mathlib.Core.Bool.{Bool, true, false, cond}
 use mathlib.Core.List.{List, [], _∷_, map}
 use Prim.Native.Nat.{ℕ, zero, suc, _+_}
-use lib.IntN.{ℤ}
 use lib.ListN.{set}
 use Rattle.model.specs.Panel.{Panel}
 use Rattle.model.specs.Table.{Slot, Table, idsDiffer}

@@ -1,12 +1,12 @@
 -- The states of a writer and a reader: when they are well formed, and the fresh ones. Assumes nothing.
 use mathlib.Core.Bool.{Bool, true, _&&_}
-use mathlib.Core.List.{List, _∷_, map}
+use mathlib.Core.List.{_∷_, map}
 use Prim.Native.Nat.{ℕ}
 use lib.Dec.{ltb}
-use lib.IntN.{ℤ, pos}
+use lib.IntN.{pos}
 use lib.ListN.{replicate}
-use Rattle.model.specs.Panel.{Axis, Layout, Setup, Field, Panel, setupGood, panelOf}
-use Rattle.model.specs.Table.{Slot, Table, idsDiffer, unusedSlot, eqTable, goodTable}
+use Rattle.model.specs.Panel.{Layout, Setup, Panel, setupGood, panelOf}
+use Rattle.model.specs.Table.{Table, idsDiffer, unusedSlot, eqTable, goodTable}
 use Rattle.model.specs.Reader.{Mode, following, dropped, stale, Reader, settledAt}
 
 -- ---- the writer's

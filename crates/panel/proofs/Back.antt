@@ -5,7 +5,7 @@ use Rattle.panel.specs.declared.Slot.{Slot}
 use Rattle.panel.specs.declared.Setup.{Setup}
 use Rattle.panel.specs.declared.Verdict.{Verdict}
 use Rattle.panel.specs.declared.Verdict.the-variants as W
-use Rattle.panel.specs.Seen.{slotOf, tableOf, slotFrom, tableFrom, setupOf, setupFrom, verdictOf, verdictFrom}
+use Rattle.panel.specs.Seen.{tableOf, tableFrom, setupOf, setupFrom, verdictOf, verdictFrom}
 
 pub table-back : (t : List Slot) → tableFrom (tableOf t) ≡ t
 table-back [] = refl

@@ -1,10 +1,10 @@
 -- What a well-formed state gives, and a run of it by the mode that it finds. Cited by the proofs of the public functions. Assumes nothing.
 use mathlib.Core.Path.{_≡_, sym, ap, ap₂, _∙_, subst}
-use mathlib.Core.Bool.{Bool, true, _&&_}
+use mathlib.Core.Bool.{true, _&&_}
 use mathlib.Core.List.{List, [], _∷_}
-use Prim.Native.Nat.{ℕ, _-_, _*_, _/_, _≤_, _<_}
+use Prim.Native.Nat.{ℕ, _-_, _*_, _/_, _<_}
 use native.Mathlib.Omega.{arith}
-use lib.Dec.{T, ltb, eqb, eqb→eq}
+use lib.Dec.{T, ltb, eqb→eq}
 use lib.IntN.{ℤ}
 use lib.ListN.{length}
 use Rattle.model.specs.Panel.{base, setupGood}
@@ -26,7 +26,7 @@ use Rattle.records.specs.declared.Event.{Event}
 use Rattle.records.proofs.Over.{record-length, over-same}
 use Rattle.records.proofs.RoundTrip.{put-then-read}
 use Rattle.reader.specs.declared.Mode.{Mode}
-use Rattle.reader.specs.declared.Mode.the-variants.{Following, Dropped, Stale}
+use Rattle.reader.specs.declared.Mode.the-variants.{Following}
 use Rattle.reader.specs.declared.ReaderState.{ReaderState}
 use Rattle.reader.specs.Seen.{modeOf, readerOf, seen}
 use Rattle.reader.specs.Runs.{onward, answered}

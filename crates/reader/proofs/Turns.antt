@@ -1,6 +1,6 @@
 -- A turn of the reader's loop, as the model sees it: one law for each arm, over the loop's locals. Cited by the proofs of `follow`, `lost` and `kept`. Assumes nothing.
 use mathlib.Core.Path.{_≡_, refl, sym, ap, _∙_, subst}
-use mathlib.Core.Bool.{Bool, true, false}
+use mathlib.Core.Bool.{true, false}
 use mathlib.Core.List.{List, [], _∷_}
 use Prim.Native.Nat.{ℕ, zero, suc, _+_, _-_, _*_, _≤_, _<_}
 use native.Mathlib.Omega.{arith}
@@ -15,7 +15,7 @@ use Rattle.model.specs.Reader as R
 use Rattle.model.specs.Reader.{settledAt}
 use Rattle.model.proofs.Lost.{Lost}
 use Rattle.model.proofs.ReaderSteady.{Fit, fit}
-use Rattle.panel.specs.Seen.{slotOf, tableOf, tableFrom, fieldsOf, panelSeen, blank}
+use Rattle.panel.specs.Seen.{slotOf, tableOf, fieldsOf, panelSeen, blank}
 use Rattle.panel.specs.declared.Slot.{Slot}
 use Rattle.panel.specs.declared.Setup.{Setup}
 use Rattle.panel.specs.declared.Verdict.the-variants as W

@@ -1,5 +1,5 @@
 -- The reader's states and answers as the model's, and back. The public contracts are the model's calls seen through it. Assumes nothing.
-use mathlib.Core.List.{List, [], _∷_}
+use mathlib.Core.List.{List}
 use Prim.Native.Nat.{ℕ}
 use lib.IntN.{ℤ}
 use Rattle.model.specs.Reader as R

@@ -1,16 +1,15 @@
 -- Signed numbers and their bits, as the machine has them. Cited by the proofs here and by those of the crates above. Assumes nothing.
-use mathlib.Core.Path.{_≡_, refl, sym, ap, _∙_}
-use mathlib.Core.Bool.{Bool, true, false}
-use Prim.Native.Nat.{ℕ, suc, _-_, _^_, _≤_, _<_}
+use mathlib.Core.Path.{_≡_, refl}
+use mathlib.Core.Bool.{true, false}
+use Prim.Native.Nat.{ℕ, suc, _-_, _^_, _<_}
 use native.Mathlib.Omega.{arith}
-use lib.Dec.{T, eqb}
+use lib.Dec.{T}
 use lib.IntN.{ℤ, pos, negsuc, natAbs}
-use borrow.Author.Tests.{eq-eqb, ne-eqb, eqb-true, eqb-false, leb-false}
+use borrow.Author.Tests.{leb-false}
 use lib.Signed.{leZ, nonNeg}
 use mir.Syntax.{w32}
 use mir.Val.{SFits, toZ, ofZ}
 use mir.ValLaws.{toZ-pos}
-use Rattle.model.specs.Numbers.{eqZ}
 use Rattle.model.specs.Records.{bitsOf}
 
 -- ---- the machine's bits are the model's

@@ -1,10 +1,10 @@
 -- Bytes written at the start of a buffer, then at the start of its rest, and from a position on. Cited by the writer's crates. Assumes nothing.
 use mathlib.Core.Path.{_≡_, refl, sym, ap, ap₂, _∙_}
-use mathlib.Core.List.{List, [], _∷_, _++_, map, append-assoc, append-nil}
-use Prim.Native.Nat.{ℕ, zero, suc, _+_, _-_, _*_, _≤_, _<_}
+use mathlib.Core.List.{List, [], _++_, append-assoc, append-nil}
+use Prim.Native.Nat.{ℕ, _+_, _-_, _≤_}
 use native.Mathlib.Omega.{arith}
-use lib.ListN.{length, getD, take, drop, length-append, length-drop, take-append-drop, length-take, drop-of-length-le}
-use lib.Seq.{drop-append-seam, take-append-seam, take-length, drop-length, drop-drop, take-all, length-take-le, take-append-add, drop-append-add, take-append-le, drop-at, take-at}
+use lib.ListN.{length, take, drop, length-append, length-drop, take-append-drop, drop-of-length-le}
+use lib.Seq.{drop-append-seam, take-append-seam, take-length, drop-length, drop-drop, take-all, length-take-le, drop-at, take-at}
 use borrow.Rule.Slice.PartMut.{putMid}
 use Rattle.model.specs.Records.{recordBytes, lay}
 use Rattle.records.specs.Seen.{over}

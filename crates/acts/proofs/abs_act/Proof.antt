@@ -1,15 +1,11 @@
 -- `acts::abs_act`: what an event of type 3 asks, by its code. Assumes nothing.
 use borrow.Author.Needs.{needs}
-use mathlib.Core.Path.{_≡_, refl, sym, ap, _∙_}
+use mathlib.Core.Path.{sym}
 use Rattle.panel.proofs.Setups.{small}
-use borrow.Author.Tests.{eq-eqb, ne-eqb}
+use borrow.Author.Tests.{ne-eqb}
 use Rattle.acts.proofs.Values.{x-in, x-out, y-in, y-out, pressure-in, pressure-out}
 use Rattle.acts.proofs.abs_act.Statement.{statement}
 use Rattle.acts.proofs.abs_act.Tie as tie
-use Rattle.acts.proofs.abs_act.Reads as reads
-use Rattle.acts.proofs.abs_act.Lts as lts
-use Rattle.acts.proofs.id_act.Reads as id-act-reads
-use Rattle.acts.proofs.slot_act.Reads as slot-act-reads
 
 slot-act-requires : tie.Need-slot-act-requires
 slot-act-requires c κs = small (c .before .args .setup) (c .before .pre) .n

@@ -1,12 +1,8 @@
 -- `acts::act_of`: what a record asks, by its type. Assumes nothing.
 use borrow.Author.Needs.{needs}
-use borrow.Author.Tests.{eq-eqb, ne-eqb}
+use borrow.Author.Tests.{ne-eqb}
 use Rattle.acts.proofs.act_of.Statement.{statement}
 use Rattle.acts.proofs.act_of.Tie as tie
-use Rattle.acts.proofs.act_of.Reads as reads
-use Rattle.acts.proofs.act_of.Lts as lts
-use Rattle.acts.proofs.abs_act.Reads as abs-act-reads
-use Rattle.acts.proofs.syn_act.Reads as syn-act-reads
 
 syn-act-requires : tie.Need-syn-act-requires
 syn-act-requires c κs = search needs

@@ -1,15 +1,12 @@
 -- `acts::id_act`: what ABS_MT_TRACKING_ID asks. Assumes nothing.
 use borrow.Author.Needs.{needs}
-use mathlib.Core.Path.{_≡_, refl, sym, ap, _∙_}
+use mathlib.Core.Path.{sym}
 use native.Mathlib.Omega.{arith}
 use mir.Syntax.{w32}
 use mir.ValLaws.{toZ-pos}
-use Rattle.model.specs.Events.{number}
 use Rattle.acts.proofs.Values.{id-small, id-none, id-not}
 use Rattle.acts.proofs.id_act.Statement.{statement}
 use Rattle.acts.proofs.id_act.Tie as tie
-use Rattle.acts.proofs.id_act.Reads as reads
-use Rattle.acts.proofs.id_act.Lts as lts
 
 returns : tie.Need-returns
 returns c = rw (c .if1 .taken) (sym id-none)

@@ -1,11 +1,8 @@
 -- `acts::slot_act`: what ABS_MT_SLOT asks. Assumes nothing.
-use borrow.Author.Needs.{needs}
-use mathlib.Core.Path.{_≡_, refl, sym, ap, _∙_}
+use mathlib.Core.Path.{sym}
 use Rattle.acts.proofs.Values.{slot-in, slot-out}
 use Rattle.acts.proofs.slot_act.Statement.{statement}
 use Rattle.acts.proofs.slot_act.Tie as tie
-use Rattle.acts.proofs.slot_act.Reads as reads
-use Rattle.acts.proofs.slot_act.Lts as lts
 
 returns : tie.Need-returns
 returns c = sym (slot-in (c .before .args .n) (c .before .args .value) (c .if1 .taken) (c .before .pre))

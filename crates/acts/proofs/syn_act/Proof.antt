@@ -1,10 +1,7 @@
 -- `acts::syn_act`: what an event of type 0 asks. Assumes nothing.
-use borrow.Author.Needs.{needs}
-use borrow.Author.Tests.{eq-eqb, ne-eqb}
+use borrow.Author.Tests.{ne-eqb}
 use Rattle.acts.proofs.syn_act.Statement.{statement}
 use Rattle.acts.proofs.syn_act.Tie as tie
-use Rattle.acts.proofs.syn_act.Reads as reads
-use Rattle.acts.proofs.syn_act.Lts as lts
 
 returns : tie.Need-returns
 returns c = rw (c .if1 .taken)

@@ -1,7 +1,6 @@
 -- `image::image_ok` tells whether an image may be loaded: its length, its rows, its ids, the current slot. Assumes nothing.
 use borrow.Author.Needs.{needs}
 use mathlib.Core.Path.{_≡_, sym, ap, _∙_}
-use Prim.Native.Nat.{_≤_}
 use borrow.Author.Tests.{not-true, not-false, ne-eqb, eq-eqb}
 use Rattle.model.specs.Table.{goodTable, idsDiffer}
 use Rattle.model.specs.Calls.{imageTable}

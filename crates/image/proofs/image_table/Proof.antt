@@ -1,22 +1,18 @@
 -- `image::image_table` makes the image's table. The loop has filled i slots. Assumes nothing.
 use borrow.Author.Needs.{needs}
-use mathlib.Core.Path.{_≡_, refl, sym, ap, ap₂, _∙_}
-use Prim.Native.Nat.{ℕ, _+_, _-_, _*_, _≤_, _<_}
+use mathlib.Core.Path.{_≡_, sym, ap, ap₂, _∙_}
+use Prim.Native.Nat.{_+_, _-_, _*_, _≤_, _<_}
 use native.Mathlib.Omega.{arith}
-use lib.IntN.{ℤ, pos, negsuc}
+use lib.IntN.{pos}
 use lib.ListN.{length, getD, set}
 use mir.Syntax.{w32}
 use mir.Val.{SFits}
 use mir.ValLaws.{toZ-ofZ}
-use Rattle.model.specs.Frame.{rowsFrom, numbersFrom}
-use Rattle.panel.specs.Seen.{fieldsOf, slotFrom}
+use Rattle.model.specs.Frame.{numbersFrom}
+use Rattle.panel.specs.Seen.{slotFrom}
 use Rattle.image.proofs.Images.{four, filled, filled-start, filled-next, filled-end}
 use Rattle.image.proofs.image_table.Statement.{statement}
 use Rattle.image.proofs.image_table.Tie as tie
-use Rattle.image.proofs.image_table.Reads as reads
-use Rattle.image.proofs.image_table.Lts as lts
-use Rattle.image.proofs.slot_of.Reads as slot-of-reads
-use Rattle.panel.proofs.unused_table.Reads as unused-table-reads
 
 abbrev Inv-loop : tie.InvT-loop
 Inv-loop image n t₀ i₀ t i = (i ≤ n) × (n ≤ 16) × (length image ≡ 4 * n) × (t ≡ filled image i)

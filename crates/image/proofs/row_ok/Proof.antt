@@ -1,13 +1,11 @@
 -- `image::row_ok` tells whether a row is good: its id, then its other numbers. Assumes nothing.
 use borrow.Author.Needs.{needs}
 use borrow.Author.Tests.{not-true, not-false}
-use mathlib.Core.Path.{_≡_, ap, ap₂, _∙_}
-use mathlib.Core.List.{_∷_, []}
+use mathlib.Core.Path.{_≡_, ap, _∙_}
 use mir.Syntax.{w32}
 use mir.ValLaws.{toZ-ofZ}
 use Rattle.model.specs.Panel.{idField}
-use Rattle.model.specs.Table.{fits, goodSlot}
-use Rattle.panel.specs.Seen.{axesOf}
+use Rattle.model.specs.Table.{fits}
 use Rattle.image.proofs.row_ok.Statement.{statement}
 use Rattle.image.proofs.row_ok.Tie as tie
 

@@ -1,12 +1,12 @@
 -- `image::rows_ok` tells whether every row is good. The loop has passed i good rows. Assumes nothing.
 use borrow.Author.Needs.{needs}
 use borrow.Author.Tests.{not-true, not-false}
-use mathlib.Core.Path.{_≡_, refl, sym, ap, _∙_}
+use mathlib.Core.Path.{_≡_, sym, ap, _∙_}
 use mathlib.Core.Bool.{_&&_}
-use Prim.Native.Nat.{ℕ, _+_, _-_, _*_, _≤_, _<_}
+use Prim.Native.Nat.{_+_, _-_, _*_, _≤_}
 use native.Mathlib.Omega.{arith}
-use lib.IntN.{ℤ, pos, negsuc}
-use lib.ListN.{length, getD}
+use lib.IntN.{pos}
+use lib.ListN.{getD}
 use mir.Syntax.{w32}
 use mir.Val.{SFits}
 use mir.ValLaws.{toZ-ofZ}
@@ -16,9 +16,6 @@ use Rattle.panel.specs.Seen.{fieldsOf}
 use Rattle.image.proofs.Images.{four, good-next, good-end}
 use Rattle.image.proofs.rows_ok.Statement.{statement}
 use Rattle.image.proofs.rows_ok.Tie as tie
-use Rattle.image.proofs.rows_ok.Reads as reads
-use Rattle.image.proofs.rows_ok.Lts as lts
-use Rattle.image.proofs.row_ok.Reads as row-ok-reads
 
 abbrev Inv-loop : tie.InvT-loop
 Inv-loop setup image n i₀ i = (i ≤ n) × (goodRecords (fieldsOf setup) n (rowsFrom 4 n image 0) ≡ goodRecords (fieldsOf setup) (n - i) (rowsFrom 4 (n - i) image (4 * i)))

@@ -4,9 +4,6 @@ use mir.Syntax.{w32}
 use mir.ValLaws.{toZ-ofZ}
 use Rattle.image.proofs.slot_of.Statement.{statement}
 use Rattle.image.proofs.slot_of.Tie as tie
-use Rattle.image.proofs.slot_of.Reads as reads
-use Rattle.image.proofs.slot_of.Lts as lts
-use Rattle.panel.proofs.nat_of.Reads as nat-of-reads
 
 nat-of-requires : tie.Need-nat-of-requires
 nat-of-requires c κs = search needs

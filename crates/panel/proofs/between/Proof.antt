@@ -1,12 +1,7 @@
 -- `panel::between` tells whether a number is 1 to a top. Assumes nothing.
-use borrow.Author.Tests.{lt-ltb, le-ltb, le-leb, lt-leb, eq-eqb, ne-eqb, not-true, not-false}
-use mathlib.Core.Path.{_≡_, refl, sym, ap, _∙_}
-use mathlib.Core.Bool.{true, false, not, _&&_}
-use native.Mathlib.Omega.{arith}
+use borrow.Author.Tests.{le-leb, lt-leb}
 use Rattle.panel.proofs.between.Statement.{statement}
 use Rattle.panel.proofs.between.Tie as tie
-use Rattle.panel.proofs.between.Reads as reads
-use Rattle.panel.proofs.between.Lts as lts
 
 returns : tie.Need-returns
 returns c = rw (lt-leb 1 _ (c .if1 .taken))

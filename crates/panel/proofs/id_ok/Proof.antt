@@ -1,16 +1,9 @@
 -- `panel::id_ok` tells whether a number is a good tracking id. Assumes nothing.
-use borrow.Author.Needs.{needs}
-use mathlib.Core.Path.{_≡_, refl, sym, ap, _∙_}
-use mathlib.Core.Bool.{Bool, true, false, _&&_}
-use lib.IntN.{ℤ, pos, negsuc}
-use lib.Signed.{leZ, ltZ}
 use mir.Syntax.{w32}
 use mir.ValLaws.{toZ-ofZ}
 use Rattle.panel.proofs.Signs.{below-one, from-one}
 use Rattle.panel.proofs.id_ok.Statement.{statement}
 use Rattle.panel.proofs.id_ok.Tie as tie
-use Rattle.panel.proofs.id_ok.Reads as reads
-use Rattle.panel.proofs.id_ok.Lts as lts
 
 returns : tie.Need-returns
 returns c = rw (below-one (c .before .args .v) (rw (toZ-ofZ w32 (c .before .args .v) (c .before .fits .v)) at (c .if1 .taken)))

@@ -1,25 +1,19 @@
 -- `panel::ids_differ` tells whether the live ids differ. The outer loop has passed i ids that clash with no later one; the inner one has compared id i - 1 with those below j. Assumes nothing.
 use borrow.Author.Needs.{needs}
-use mathlib.Core.Path.{_≡_, refl, sym, ap, ap₂, _∙_}
-use mathlib.Core.Bool.{Bool, true, false, not, _&&_, _||_}
-use mathlib.Core.List.{map}
-use Prim.Native.Nat.{ℕ, _≤_, _<_, _-_, _+_}
-use native.Mathlib.Omega.{arith}
-use lib.IntN.{ℤ, pos, negsuc}
-use lib.ListN.{drop, getD, length, length-map, List·getD-map}
+use mathlib.Core.Path.{_≡_, sym, ap, _∙_}
+use mathlib.Core.Bool.{not, _&&_, _||_}
+use Prim.Native.Nat.{_≤_, _-_, _+_}
+use lib.ListN.{drop, getD}
 use mir.Syntax.{w32}
 use mir.Val.{SFits, toZ, ofZ}
 use mir.ValLaws.{toZ-ofZ}
 use borrow.Author.Tests.{not-true, not-false}
 use Rattle.model.specs.Numbers.{eqZ, minusOne}
-use Rattle.model.specs.Table.{idOf, ids, live, unheld, liveDiffer}
-use Rattle.panel.specs.Seen.{slotOf, tableOf, blank}
+use Rattle.model.specs.Table.{ids, live, unheld, liveDiffer}
+use Rattle.panel.specs.Seen.{tableOf, blank}
 use Rattle.panel.proofs.Tables.{unheld-turn, unheld-over, differ-turn, differ-over, dead, alive}
 use Rattle.panel.proofs.ids_differ.Statement.{statement}
 use Rattle.panel.proofs.ids_differ.Tie as tie
-use Rattle.panel.proofs.ids_differ.Reads as reads
-use Rattle.panel.proofs.ids_differ.Lts as lts
-use Rattle.panel.proofs.same.Reads as same-reads
 
 abbrev Inv-loop2 : tie.InvT-loop2
 Inv-loop2 t i v j₀ j = (i ≤ 16) × (j ≤ 16) × (liveDiffer (ids (tableOf t)) ≡ (unheld (toZ w32 v) (drop j (ids (tableOf t))) && liveDiffer (drop i (ids (tableOf t)))))

@@ -1,9 +1,8 @@
 -- `panel::nat_of` is a number that is not negative, or 0. Assumes nothing.
-use borrow.Author.Needs.{needs}
-use mathlib.Core.Path.{_≡_, refl, sym, ap, _∙_}
+use mathlib.Core.Path.{_≡_}
 use mathlib.Core.Bool.{true, false}
 use native.Mathlib.Omega.{arith}
-use lib.IntN.{ℤ, pos, negsuc}
+use lib.IntN.{pos}
 use lib.Signed.{ltZ}
 use mir.Syntax.{w32}
 use mir.Val.{SFits}
@@ -11,8 +10,6 @@ use mir.ValLaws.{toZ-ofZ}
 use Rattle.panel.proofs.Signs.{negative, not-negative}
 use Rattle.panel.proofs.nat_of.Statement.{statement}
 use Rattle.panel.proofs.nat_of.Tie as tie
-use Rattle.panel.proofs.nat_of.Reads as reads
-use Rattle.panel.proofs.nat_of.Lts as lts
 
 is-neg : (c : tie.Then1) → ltZ (c .before .args .v) (pos 0) ≡ true
 is-neg c = rw (toZ-ofZ w32 (c .before .args .v) (c .before .fits .v)) at (c .if1 .taken)

@@ -1,14 +1,10 @@
 -- `panel::place_ok` tells whether a record is good where it stands. Assumes nothing.
 use borrow.Author.Needs.{needs}
-use mathlib.Core.Path.{_≡_, refl, sym, ap, _∙_}
-use Prim.Native.Nat.{ℕ, suc, _-_, _+_}
+use mathlib.Core.Path.{_≡_}
+use Prim.Native.Nat.{suc, _-_, _+_}
 use native.Mathlib.Omega.{arith}
 use Rattle.panel.proofs.place_ok.Statement.{statement}
 use Rattle.panel.proofs.place_ok.Tie as tie
-use Rattle.panel.proofs.place_ok.Reads as reads
-use Rattle.panel.proofs.place_ok.Lts as lts
-use Rattle.panel.proofs.slot_ok.Reads as slot-ok-reads
-use Rattle.panel.proofs.slot_unused.Reads as slot-unused-reads
 
 slot-ok-requires : tie.Need-slot-ok-requires
 slot-ok-requires c κs = search needs

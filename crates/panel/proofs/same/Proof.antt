@@ -2,8 +2,6 @@
 use Rattle.panel.proofs.Signs.{eq-bits}
 use Rattle.panel.proofs.same.Statement.{statement}
 use Rattle.panel.proofs.same.Tie as tie
-use Rattle.panel.proofs.same.Reads as reads
-use Rattle.panel.proofs.same.Lts as lts
 
 returns : tie.Need-returns
 returns c = eq-bits (c .args .a) (c .args .b) (c .fits .a) (c .fits .b)

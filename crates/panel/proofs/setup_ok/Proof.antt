@@ -5,9 +5,6 @@ use mathlib.Core.Path.{sym, _∙_}
 use Rattle.panel.proofs.Signs.{and-true}
 use Rattle.panel.proofs.setup_ok.Statement.{statement}
 use Rattle.panel.proofs.setup_ok.Tie as tie
-use Rattle.panel.proofs.setup_ok.Reads as reads
-use Rattle.panel.proofs.setup_ok.Lts as lts
-use Rattle.panel.proofs.between.Reads as between-reads
 
 between-requires : tie.Need-between-requires
 between-requires c κs = search needs

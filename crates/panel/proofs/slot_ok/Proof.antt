@@ -1,9 +1,7 @@
 -- `panel::slot_ok` tells whether a slot is good, number by number. Assumes nothing.
 use borrow.Author.Needs.{needs}
-use mathlib.Core.Path.{_≡_, refl, sym, ap, _∙_}
-use mathlib.Core.Bool.{Bool, true, false, _&&_}
+use mathlib.Core.Path.{_≡_, sym, _∙_}
 use borrow.Author.Tests.{not-true, not-false}
-use native.Mathlib.Omega.{arith}
 use mir.Syntax.{w32}
 use mir.Val.{SFits}
 use mir.ValLaws.{toZ-ofZ}
@@ -12,9 +10,6 @@ use Rattle.model.specs.Panel.{idField}
 use Rattle.panel.proofs.Slots.{slot-1, slot-2, slot-3, slot-4}
 use Rattle.panel.proofs.slot_ok.Statement.{statement}
 use Rattle.panel.proofs.slot_ok.Tie as tie
-use Rattle.panel.proofs.slot_ok.Reads as reads
-use Rattle.panel.proofs.slot_ok.Lts as lts
-use Rattle.panel.proofs.id_ok.Reads as id-ok-reads
 
 id-is : (c : tie.After-id-ok) → c .id-ok .result ≡ fits idField (c .before .before .before .args .s .id .0)
 id-is c =

@@ -2,10 +2,6 @@
 use borrow.Author.Needs.{needs}
 use Rattle.panel.proofs.slot_unused.Statement.{statement}
 use Rattle.panel.proofs.slot_unused.Tie as tie
-use Rattle.panel.proofs.slot_unused.Reads as reads
-use Rattle.panel.proofs.slot_unused.Lts as lts
-use Rattle.panel.proofs.Slot.unused.Reads as unused-reads
-use Rattle.panel.proofs.slots_same.Reads as slots-same-reads
 
 unused-requires : tie.Need-unused-requires
 unused-requires c κs = search needs

@@ -1,9 +1,7 @@
 -- `panel::slots_same` tells whether two slots are equal, number by number. Assumes nothing.
 use borrow.Author.Needs.{needs}
-use mathlib.Core.Path.{_≡_, refl, sym, ap, _∙_}
-use mathlib.Core.Bool.{Bool, true, false, _&&_}
+use mathlib.Core.Path.{_≡_, sym, _∙_}
 use borrow.Author.Tests.{not-true, not-false}
-use native.Mathlib.Omega.{arith}
 use mir.Syntax.{w32}
 use mir.Val.{SFits}
 use mir.ValLaws.{toZ-ofZ}
@@ -11,9 +9,6 @@ use Rattle.model.specs.Numbers.{eqZ}
 use Rattle.panel.proofs.Slots.{same-1, same-2, same-3, same-4}
 use Rattle.panel.proofs.slots_same.Statement.{statement}
 use Rattle.panel.proofs.slots_same.Tie as tie
-use Rattle.panel.proofs.slots_same.Reads as reads
-use Rattle.panel.proofs.slots_same.Lts as lts
-use Rattle.panel.proofs.same.Reads as same-reads
 
 id-is : (c : tie.After-same) → c .same .result ≡ eqZ (c .before .before .before .before .before .args .a .id .0) (c .before .before .before .before .before .args .b .id .0)
 id-is c =

@@ -1,9 +1,8 @@
 -- `panel::table_ok` tells whether a table's records are good. The loop has passed i good records. Assumes nothing.
 use borrow.Author.Needs.{needs}
-use mathlib.Core.Path.{_≡_, refl, sym, ap, _∙_}
-use mathlib.Core.Bool.{Bool, true, false, _&&_}
-use mathlib.Core.List.{map}
-use Prim.Native.Nat.{ℕ, _≤_, _<_, _-_, _+_}
+use mathlib.Core.Path.{_≡_, sym, ap, _∙_}
+use mathlib.Core.Bool.{_&&_}
+use Prim.Native.Nat.{_≤_, _<_, _-_, _+_}
 use native.Mathlib.Omega.{arith}
 use lib.ListN.{drop, getD, length, length-map, List·getD-map}
 use borrow.Author.Tests.{not-true, not-false}
@@ -12,9 +11,6 @@ use Rattle.panel.specs.Seen.{slotOf, tableOf, fieldsOf, blank}
 use Rattle.panel.proofs.Tables.{records-step, records-end}
 use Rattle.panel.proofs.table_ok.Statement.{statement}
 use Rattle.panel.proofs.table_ok.Tie as tie
-use Rattle.panel.proofs.table_ok.Reads as reads
-use Rattle.panel.proofs.table_ok.Lts as lts
-use Rattle.panel.proofs.place_ok.Reads as place-ok-reads
 
 abbrev Inv-loop : tie.InvT-loop
 Inv-loop setup t i₀ i = (i ≤ 16) × (goodRecords (fieldsOf setup) (setup .n) (tableOf t) ≡ goodRecords (fieldsOf setup) (setup .n - i) (drop i (tableOf t)))

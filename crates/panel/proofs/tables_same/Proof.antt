@@ -1,20 +1,15 @@
 -- `panel::tables_same` tells whether two tables are equal. The loop has passed i equal slots. Assumes nothing.
 use borrow.Author.Needs.{needs}
-use mathlib.Core.Path.{_≡_, refl, sym, ap, ap₂, _∙_}
-use mathlib.Core.Bool.{Bool, true, false, _&&_}
-use mathlib.Core.List.{map}
-use Prim.Native.Nat.{ℕ, _≤_, _<_, _-_, _+_}
-use native.Mathlib.Omega.{arith}
+use mathlib.Core.Path.{_≡_, sym, ap, ap₂, _∙_}
+use mathlib.Core.Bool.{_&&_}
+use Prim.Native.Nat.{_≤_, _<_, _-_, _+_}
 use lib.ListN.{drop, getD, length, length-map, List·getD-map}
 use borrow.Author.Tests.{not-true, not-false}
 use Rattle.model.specs.Table.{eqSlot, eqTable}
-use Rattle.panel.specs.Seen.{slotOf, tableOf, fieldsOf, blank}
+use Rattle.panel.specs.Seen.{slotOf, tableOf, blank}
 use Rattle.panel.proofs.Tables.{same-step, same-end}
 use Rattle.panel.proofs.tables_same.Statement.{statement}
 use Rattle.panel.proofs.tables_same.Tie as tie
-use Rattle.panel.proofs.tables_same.Reads as reads
-use Rattle.panel.proofs.tables_same.Lts as lts
-use Rattle.panel.proofs.slots_same.Reads as slots-same-reads
 
 abbrev Inv-loop : tie.InvT-loop
 Inv-loop a b i₀ i = (i ≤ 16) × (eqTable (tableOf a) (tableOf b) ≡ eqTable (drop i (tableOf a)) (drop i (tableOf b)))

@@ -2,9 +2,6 @@
 use borrow.Author.Needs.{needs}
 use Rattle.panel.proofs.unused_table.Statement.{statement}
 use Rattle.panel.proofs.unused_table.Tie as tie
-use Rattle.panel.proofs.unused_table.Reads as reads
-use Rattle.panel.proofs.unused_table.Lts as lts
-use Rattle.panel.proofs.Slot.unused.Reads as unused-reads
 
 unused-requires : tie.Need-unused-requires
 unused-requires c κs = search needs

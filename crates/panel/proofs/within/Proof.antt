@@ -1,19 +1,13 @@
 -- `panel::within` tells whether a signed number is 0 to a top. Assumes nothing.
 use borrow.Author.Needs.{needs}
-use mathlib.Core.Path.{_≡_, refl, sym, ap, _∙_}
-use mathlib.Core.Bool.{true, false}
+use mathlib.Core.Path.{sym, ap, _∙_}
 use lib.Dec.{leb}
-use lib.IntN.{ℤ, pos, negsuc}
-use lib.Signed.{ltZ}
 use mir.Syntax.{w32}
 use mir.ValLaws.{toZ-ofZ}
 use Rattle.panel.specs.Seen.{natural}
 use Rattle.panel.proofs.Signs.{within-nat, within-neg}
 use Rattle.panel.proofs.within.Statement.{statement}
 use Rattle.panel.proofs.within.Tie as tie
-use Rattle.panel.proofs.within.Reads as reads
-use Rattle.panel.proofs.within.Lts as lts
-use Rattle.panel.proofs.nat_of.Reads as nat-of-reads
 
 returns : tie.Need-returns
 returns c = sym (within-neg (c .before .args .v) (c .before .args .top) (rw (toZ-ofZ w32 (c .before .args .v) (c .before .fits .v)) at (c .if1 .taken)))

@@ -1,6 +1,6 @@
 -- `reader::answer_in`: a slot's answer by the mode. Assumes nothing.
 use borrow.Author.Needs.{needs}
-use mathlib.Core.Path.{_≡_, refl, sym, ap, _∙_}
+use mathlib.Core.Path.{_≡_, sym, ap, _∙_}
 use Prim.Native.Nat.{_<_}
 use native.Mathlib.Omega.{arith}
 use lib.ListN.{length}
@@ -10,9 +10,6 @@ use Rattle.reader.specs.Seen.{askedFrom}
 use Rattle.panel.proofs.Tables.{slot-at}
 use Rattle.reader.proofs.answer_in.Statement.{statement}
 use Rattle.reader.proofs.answer_in.Tie as tie
-use Rattle.reader.proofs.answer_in.Reads as reads
-use Rattle.reader.proofs.answer_in.Lts as lts
-use Rattle.reader.proofs.shown_answer.Reads as shown-answer-reads
 
 enum-told : tie.Need-enum-told
 enum-told c = search needs

@@ -1,10 +1,9 @@
 -- `reader::follow`: a run that begins following. The loop has read k records; what is left of the run is the whole run's answer. Assumes nothing.
 use borrow.Author.Needs.{needs}
-use mathlib.Core.Path.{_≡_, refl, sym, ap, ap₂, _∙_}
-use mathlib.Core.Bool.{true, false}
-use Prim.Native.Nat.{ℕ, _+_, _-_, _*_, _/_, _≤_, _<_}
+use mathlib.Core.Path.{_≡_, refl, sym, ap, _∙_}
+use Prim.Native.Nat.{_+_, _-_, _*_, _/_, _≤_, _<_}
 use native.Mathlib.Omega.{arith}
-use lib.IntN.{ℤ, pos}
+use lib.IntN.{pos}
 use lib.ListN.{length, getD, length-set}
 use mir.Syntax.{w32}
 use mir.Val.{SFits, toZ, ofZ}
@@ -14,20 +13,12 @@ use Rattle.model.specs.Reader.{following, nothing}
 use Rattle.model.specs.Records.{eventAt, eventsFrom}
 use Rattle.panel.specs.Seen.{panelSeen, blank}
 use Rattle.panel.proofs.Setups.{small}
-use Rattle.panel.specs.declared.Slot.{Slot}
 use Rattle.acts.specs.Seen.{actOf}
 use Rattle.reader.specs.Seen.{readerOf}
 use Rattle.reader.specs.Runs.{onward, answered}
 use Rattle.reader.proofs.Turns.{sofar, selected, skips, selects, shows, repeats, drops, spoils, stores, ends}
 use Rattle.reader.proofs.follow.Statement.{statement}
 use Rattle.reader.proofs.follow.Tie as tie
-use Rattle.reader.proofs.follow.Reads as reads
-use Rattle.reader.proofs.follow.Lts as lts
-use Rattle.panel.proofs.ids_differ.Reads as ids-differ-reads
-use Rattle.acts.proofs.act_of.Reads as act-of-reads
-use Rattle.reader.proofs.kept.Reads as kept-reads
-use Rattle.reader.proofs.lost.Reads as lost-reads
-use Rattle.records.proofs.record_at.Reads as record-at-reads
 
 abbrev Inv-loop : tie.InvT-loop
 Inv-loop setup current0 bytes count shown₀ pending₀ current₀ frames₀ skipped₀ k₀ shown pending current frames skipped k = (k ≤ count) × (current < 16) × (frames + skipped ≤ k) × (length pending ≡ 16) × (onward (panelSeen setup) (readerOf shown₀ pending₀ current₀ following) nothing (eventsFrom count bytes 0) ≡ onward (panelSeen setup) (readerOf shown pending current following) (sofar frames skipped) (eventsFrom (count - k) bytes (8 * k)))

@@ -1,10 +1,7 @@
 -- `reader::kept`: the answer of a run that never lost track. Assumes nothing.
-use borrow.Author.Needs.{needs}
 use Rattle.reader.proofs.Turns.{kept-answer}
 use Rattle.reader.proofs.kept.Statement.{statement}
 use Rattle.reader.proofs.kept.Tie as tie
-use Rattle.reader.proofs.kept.Reads as reads
-use Rattle.reader.proofs.kept.Lts as lts
 
 returns : tie.Need-returns
 returns c =

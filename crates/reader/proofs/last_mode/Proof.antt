@@ -1,19 +1,14 @@
 -- `reader::last_mode`: the mode after the records that are left. The loop has passed i records. Assumes nothing.
 use borrow.Author.Needs.{needs}
-use mathlib.Core.Path.{_≡_, refl, sym, ap, ap₂, _∙_}
-use Prim.Native.Nat.{ℕ, _+_, _-_, _*_, _/_, _≤_, _<_}
-use native.Mathlib.Omega.{arith}
+use mathlib.Core.Path.{_≡_, sym, ap, _∙_}
+use Prim.Native.Nat.{_+_, _-_, _*_, _/_, _≤_}
 use lib.ListN.{length}
-use Rattle.model.specs.Records.{eventAt, eventsFrom}
+use Rattle.model.specs.Records.{eventsFrom}
 use Rattle.reader.specs.Runs.{onLost, heard, lastMode}
 use Rattle.reader.proofs.Runs.{last-next, last-end}
 use Rattle.reader.specs.Seen.{modeOf}
 use Rattle.reader.proofs.last_mode.Statement.{statement}
 use Rattle.reader.proofs.last_mode.Tie as tie
-use Rattle.reader.proofs.last_mode.Reads as reads
-use Rattle.reader.proofs.last_mode.Lts as lts
-use Rattle.reader.proofs.lost_step.Reads as lost-step-reads
-use Rattle.records.proofs.record_at.Reads as record-at-reads
 
 abbrev Inv-loop : tie.InvT-loop
 Inv-loop bytes k count mode₀ i₀ mode i = (i ≤ count) × (lastMode (modeOf mode₀) (eventsFrom (count - i₀) bytes (8 * i₀)) ≡ lastMode (modeOf mode) (eventsFrom (count - i) bytes (8 * i)))

@@ -5,9 +5,6 @@ use Prim.Native.Nat.{_/_}
 use lib.ListN.{length}
 use Rattle.reader.proofs.lost.Statement.{statement}
 use Rattle.reader.proofs.lost.Tie as tie
-use Rattle.reader.proofs.lost.Reads as reads
-use Rattle.reader.proofs.lost.Lts as lts
-use Rattle.reader.proofs.last_mode.Reads as last-mode-reads
 
 last-mode-requires : tie.Need-last-mode-requires
 last-mode-requires c κs = search needs

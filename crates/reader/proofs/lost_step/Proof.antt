@@ -1,13 +1,11 @@
 -- `reader::lost_step`: the mode after a record that finds it lost. Assumes nothing.
 use borrow.Author.Needs.{needs}
-use mathlib.Core.Path.{_≡_, refl, sym, ap, _∙_}
+use mathlib.Core.Path.{sym}
 use Rattle.records.specs.Seen.{eventOf}
 use Rattle.reader.specs.Seen.{modeOf}
 use Rattle.reader.proofs.Waits.{other-type, to-stale, to-dropped, stays-dropped, stays-stale}
 use Rattle.reader.proofs.lost_step.Statement.{statement}
 use Rattle.reader.proofs.lost_step.Tie as tie
-use Rattle.reader.proofs.lost_step.Reads as reads
-use Rattle.reader.proofs.lost_step.Lts as lts
 
 returns : tie.Need-returns
 returns c = sym (other-type (eventOf (c .before .before .args .e)) (modeOf (c .before .before .args .mode)) (c .if1 .taken))

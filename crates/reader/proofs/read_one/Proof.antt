@@ -20,12 +20,6 @@ use Rattle.reader.proofs.Turns.{state-back}
 use Rattle.reader.proofs.States.{one-record}
 use Rattle.reader.proofs.read_one.Statement.{statement}
 use Rattle.reader.proofs.read_one.Tie as tie
-use Rattle.reader.proofs.read_one.Reads as reads
-use Rattle.reader.proofs.read_one.Lts as lts
-use Rattle.reader.proofs.run_accepted.Reads as run-accepted-reads
-use Rattle.reader.proofs.run_refused.Reads as run-refused-reads
-use Rattle.reader.proofs.state_ok.Reads as state-ok-reads
-use Rattle.records.proofs.put.Reads as put-reads
 
 -- The state passed its test.
 good : (c : tie.Else1) → readerGood base (seen (c .before .before .args .state)) ≡ true

@@ -1,15 +1,11 @@
 -- `reader::run_accepted`: a run of a well-formed state, by its mode. Assumes nothing.
 use borrow.Author.Needs.{needs}
-use mathlib.Core.Path.{_≡_, refl, sym, ap, _∙_}
-use Rattle.reader.specs.declared.Mode.the-variants.{Following, Dropped, Stale}
+use mathlib.Core.Path.{_∙_}
+use Rattle.reader.specs.declared.Mode.the-variants.{Dropped, Stale}
 use native.Mathlib.Omega.{arith}
 use Rattle.reader.proofs.States.{good-setup, good-current, good-small, follow-run, lost-run}
 use Rattle.reader.proofs.run_accepted.Statement.{statement}
 use Rattle.reader.proofs.run_accepted.Tie as tie
-use Rattle.reader.proofs.run_accepted.Reads as reads
-use Rattle.reader.proofs.run_accepted.Lts as lts
-use Rattle.reader.proofs.follow.Reads as follow-reads
-use Rattle.reader.proofs.lost.Reads as lost-reads
 
 enum-told : tie.Need-enum-told
 enum-told c = search needs

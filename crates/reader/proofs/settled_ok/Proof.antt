@@ -2,9 +2,6 @@
 use borrow.Author.Needs.{needs}
 use Rattle.reader.proofs.settled_ok.Statement.{statement}
 use Rattle.reader.proofs.settled_ok.Tie as tie
-use Rattle.reader.proofs.settled_ok.Reads as reads
-use Rattle.reader.proofs.settled_ok.Lts as lts
-use Rattle.panel.proofs.tables_same.Reads as tables-same-reads
 
 enum-told : tie.Need-enum-told
 enum-told c = search needs

@@ -1,15 +1,12 @@
 -- `reader::shown_answer`: what a shown slot is answered. Assumes nothing.
 use borrow.Author.Needs.{needs}
-use mathlib.Core.Path.{_≡_, refl, sym, ap, _∙_}
+use mathlib.Core.Path.{_≡_, ap, _∙_}
 use mir.Syntax.{w32}
 use mir.Val.{SFits}
 use mir.ValLaws.{toZ-ofZ}
 use Rattle.model.specs.Numbers.{eqZ, minusOne}
 use Rattle.reader.proofs.shown_answer.Statement.{statement}
 use Rattle.reader.proofs.shown_answer.Tie as tie
-use Rattle.reader.proofs.shown_answer.Reads as reads
-use Rattle.reader.proofs.shown_answer.Lts as lts
-use Rattle.panel.proofs.same.Reads as same-reads
 
 id-is : (c : tie.After-same) → c .same .result ≡ eqZ (c .before .before .before .args .s .id .0) minusOne
 id-is c =

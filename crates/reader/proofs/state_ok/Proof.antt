@@ -1,7 +1,7 @@
 -- `reader::state_ok`: whether a state is well formed, its setup first. Assumes nothing.
 use borrow.Author.Needs.{needs}
 use borrow.Author.Tests.{not-true, not-false}
-use mathlib.Core.Path.{_≡_, sym, _∙_}
+use mathlib.Core.Path.{sym, _∙_}
 use Rattle.model.specs.States.{readerGood}
 use Rattle.panel.proofs.Setups.{small}
 use Rattle.reader.proofs.state_ok.Statement.{statement}

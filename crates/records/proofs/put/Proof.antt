@@ -1,14 +1,12 @@
 -- `records::put` writes a record's eight bytes at the start of a lent part. Assumes nothing.
 use native.Mathlib.Omega.{arith}
-use lib.ListN.{length-set, drop, set}
+use lib.ListN.{length-set}
 use lib.Seq.{sets-eq}
 use Rattle.model.specs.Records.{recordBytes}
 use Rattle.records.specs.Seen.{over}
 use borrow.Author.Needs.{needs}
 use Rattle.records.proofs.put.Statement.{statement}
 use Rattle.records.proofs.put.Tie as tie
-use Rattle.records.proofs.put.Reads as reads
-use Rattle.records.proofs.put.Lts as lts
 
 cast-b : tie.Need-cast-b
 cast-b c = search needs

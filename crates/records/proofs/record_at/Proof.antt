@@ -2,10 +2,6 @@
 use borrow.Author.Needs.{needs}
 use Rattle.records.proofs.record_at.Statement.{statement}
 use Rattle.records.proofs.record_at.Tie as tie
-use Rattle.records.proofs.record_at.Reads as reads
-use Rattle.records.proofs.record_at.Lts as lts
-use Rattle.records.proofs.join16.Reads as join16-reads
-use Rattle.records.proofs.join32.Reads as join32-reads
 
 shared-slice-read-join16 : tie.Need-shared-slice-read-join16
 shared-slice-read-join16 c = search needs

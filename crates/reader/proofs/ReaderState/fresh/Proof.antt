@@ -1,7 +1,7 @@
 -- `ReaderState::fresh`: a fresh reader, or refusal 1 with zeros. Assumes nothing.
 use borrow.Author.Needs.{needs}
 use borrow.Author.Tests.{not-true, not-false}
-use mathlib.Core.Path.{_≡_, sym, ap, _∙_}
+use mathlib.Core.Path.{sym, ap, _∙_}
 use Rattle.model.specs.Panel.{base}
 use Rattle.model.proofs.Answers.{reader-not-made, reader-made}
 use Rattle.panel.specs.Seen.{setupOf}
