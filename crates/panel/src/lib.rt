@@ -7,7 +7,7 @@ ghost use lib.IntN.{pos};
 ghost use Rattle.model.specs.Numbers.{eqZ, between as betweenN, betweenZ};
 ghost use Rattle.model.specs.Panel.{base, setupGood, idField};
 ghost use Rattle.model.specs.Table.{fits, goodSlot, eqSlot, eqTable, idsDiffer as idsApart, goodPlace, goodRecords};
-ghost use Rattle.panel.specs.Seen.{natural, slotOf, tableOf, setupOf, fieldsOf, axesOf, unused, unusedAll, zeros};
+ghost use Rattle.panel.specs.Seen.{natural, slotOf, tableOf, setupOf, fieldsOf, axesOf, unused, unusedAll, zeros, verdictNumber};
 
 // A slot number and a tracking id are kinds of number that must not be mixable: a lifted id taken for a slot would move another finger.
 pub struct SlotNumber(pub usize);
@@ -47,6 +47,25 @@ pub enum Verdict {
     Ragged,
     NotStale,
     Image,
+}
+
+impl Verdict {
+    // Document 01's number of a refusal; 0 where the call was accepted.
+    pub fn number(self) -> u8
+        ensures { λ r. ⌜ r ≡ verdictNumber self ⌝ }
+    {
+        match self {
+            Verdict::Accepted => 0,
+            Verdict::Setup => 1,
+            Verdict::State => 2,
+            Verdict::Frame => 3,
+            Verdict::Value => 4,
+            Verdict::NoRoom => 5,
+            Verdict::Ragged => 6,
+            Verdict::NotStale => 7,
+            Verdict::Image => 8,
+        }
+    }
 }
 
 impl Slot {

@@ -34,13 +34,15 @@ pub struct Event {
     pub value: u32,
 }
 
+// Two bytes as a number, the lower first.
 fn join16(a: u8, b: u8) -> u16
     ensures { λ r. ⌜ r ≡ joined16 a b ⌝ }
 {
     (a as u16) + 256 * (b as u16)
 }
 
-fn join32(a: u8, b: u8, c: u8, d: u8) -> u32
+// Four bytes as a number, the lowest first.
+pub fn join32(a: u8, b: u8, c: u8, d: u8) -> u32
     ensures { λ r. ⌜ r ≡ joined32 a b c d ⌝ }
 {
     (a as u32) + 256 * (b as u32) + 65536 * (c as u32) + 16777216 * (d as u32)
