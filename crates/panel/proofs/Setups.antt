@@ -1,6 +1,6 @@
 -- The bounds that a good setup gives. Cited by the reader's and the writer's crates. Assumes nothing.
 use mathlib.Core.Path.{_≡_, sym, subst}
-use mathlib.Core.Bool.{Bool, true, _&&_}
+use mathlib.Core.Bool.{Bool, true, false, _&&_}
 use Prim.Native.Nat.{ℕ, _≤_, _<_}
 use lib.Dec.{T, leb, leb→le}
 use Rattle.model.specs.Numbers.{between}
@@ -8,6 +8,7 @@ use Rattle.model.specs.Panel.{base, setupGood}
 use Rattle.model.proofs.Bools.{both-left, both-right}
 use Rattle.panel.specs.declared.Setup.{Setup}
 use Rattle.panel.specs.Seen.{setupOf}
+use Rattle.panel.proofs.Signs.{and-true}
 
 pub holds : (b : Bool) → b ≡ true → T b
 holds b e = subst T (sym e) tt
@@ -40,3 +41,18 @@ small u e =
       y = at-most (u .y) 32_767 (both-left c (d && true) i);
       pressure = at-most (u .pressure) 255 (both-left d true (both-right c (d && true) i));
     }
+
+-- ---- a setup's test, by the first number that fails
+
+module _ (u : Setup) where
+  pub setup-1 : between 1 16 (u .n) ≡ false → setupGood base (setupOf u) ≡ false
+  setup-1 e = rw e
+
+  pub setup-2 : between 1 16 (u .n) ≡ true → between 1 32_767 (u .x) ≡ false → setupGood base (setupOf u) ≡ false
+  setup-2 e f = rw (e, f)
+
+  pub setup-3 : between 1 16 (u .n) ≡ true → between 1 32_767 (u .x) ≡ true → between 1 32_767 (u .y) ≡ false → setupGood base (setupOf u) ≡ false
+  setup-3 e f g = rw (e, f, g)
+
+  pub setup-4 : between 1 16 (u .n) ≡ true → between 1 32_767 (u .x) ≡ true → between 1 32_767 (u .y) ≡ true → setupGood base (setupOf u) ≡ between 1 255 (u .pressure)
+  setup-4 e f g = rw (e, f, g) (and-true _)

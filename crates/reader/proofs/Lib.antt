@@ -1,5 +1,2 @@
--- The laws behind the reader's functions.
-pub mod Runs
-pub mod Waits
-pub mod Turns
+-- The laws behind the reader's calls.
 pub mod States

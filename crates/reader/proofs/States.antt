@@ -25,12 +25,12 @@ use Rattle.records.specs.Seen.{over, eventOf}
 use Rattle.records.specs.declared.Event.{Event}
 use Rattle.records.proofs.Over.{record-length, over-same}
 use Rattle.records.proofs.RoundTrip.{put-then-read}
-use Rattle.reader.specs.declared.Mode.{Mode}
-use Rattle.reader.specs.declared.Mode.the-variants.{Following}
-use Rattle.reader.specs.declared.ReaderState.{ReaderState}
-use Rattle.reader.specs.Seen.{modeOf, readerOf, seen}
-use Rattle.reader.specs.Runs.{onward, answered}
-use Rattle.reader.proofs.Runs.{onward-start}
+use Rattle.runs.specs.declared.Mode.{Mode}
+use Rattle.runs.specs.declared.Mode.the-variants.{Following}
+use Rattle.runs.specs.declared.ReaderState.{ReaderState}
+use Rattle.runs.specs.Seen.{modeOf, readerOf, seen}
+use Rattle.runs.specs.Runs.{onward, answered}
+use Rattle.runs.proofs.Runs.{onward-start}
 
 settles : (m : R.Mode) (s p : Table) → T (settled m s p) → Lost m → p ≡ s
 settles R.following s p t l = absurd l

@@ -1,3 +1,2 @@
--- The reader's states and answers as the model's, and what is left of a run.
+-- The reader's answers as the model's.
 pub mod Seen
-pub mod Runs

@@ -1,78 +1,19 @@
--- The reader's states and answers as the model's, and back. The public contracts are the model's calls seen through it. Assumes nothing.
+-- The answers of a load and of a question as the model's, and the two plain ones of a run and a load. The public contracts cite it. Assumes nothing.
 use mathlib.Core.List.{List}
 use Prim.Native.Nat.{ℕ}
 use lib.IntN.{ℤ}
 use Rattle.model.specs.Reader as R
-use Rattle.model.specs.States as S
 use Rattle.model.specs.Calls as C
-use Rattle.panel.specs.Seen.{slotFrom, tableOf, tableFrom, setupOf, setupFrom, panelSeen, verdictFrom, zeros}
-use Rattle.panel.specs.declared.Slot.{Slot}
+use Rattle.panel.specs.Seen.{slotFrom, setupOf, panelSeen, verdictFrom}
 use Rattle.panel.specs.declared.Setup.{Setup}
 use Rattle.panel.specs.declared.Verdict.{Verdict}
 use Rattle.panel.specs.declared.Verdict.the-variants as W
-use Rattle.reader.specs.declared.Mode.{Mode}
-use Rattle.reader.specs.declared.Mode.the-variants.{Following, Dropped, Stale}
-use Rattle.reader.specs.declared.ReaderState.{ReaderState}
-use Rattle.reader.specs.declared.Counts.{Counts}
-use Rattle.reader.specs.declared.RunAnswer.{RunAnswer}
-use Rattle.reader.specs.declared.FreshAnswer.{FreshAnswer}
+use Rattle.runs.specs.Seen.{held, countsFrom}
+use Rattle.runs.specs.declared.ReaderState.{ReaderState}
+use Rattle.runs.specs.declared.RunAnswer.{RunAnswer}
 use Rattle.reader.specs.declared.LoadAnswer.{LoadAnswer}
 use Rattle.reader.specs.declared.SlotAnswer.{SlotAnswer}
 use Rattle.reader.specs.declared.SlotAnswer.the-variants.{Contact, Empty, Unknown, NoSuchSlot, Refused}
-
--- ---- states
-
--- A mode.
-abbrev pub modeOf : Mode → R.Mode
-modeOf Following = R.following
-modeOf Dropped = R.dropped
-modeOf Stale = R.stale
-
--- And back.
-abbrev pub modeFrom : R.Mode → Mode
-modeFrom R.following = Following
-modeFrom R.dropped = Dropped
-modeFrom R.stale = Stale
-
--- The machine's reader, of the parts that the code holds.
-abbrev pub readerOf : List Slot → List Slot → ℕ → R.Mode → R.Reader
-readerOf s p c m = record { shown = tableOf s; pending = tableOf p; current = c; mode = m }
-
--- A state as the model sees it.
-abbrev pub seen : ReaderState → S.ReaderState
-seen s = record { setup = setupOf (s .setup); reader = readerOf (s .shown) (s .pending) (s .current .0) (modeOf (s .mode)) }
-
--- And back.
-abbrev pub held : S.ReaderState → ReaderState
-held s = record {
-  setup = setupFrom (s .setup);
-  shown = tableFrom (s .reader .shown);
-  pending = tableFrom (s .reader .pending);
-  current = record { 0 = s .reader .current };
-  mode = modeFrom (s .reader .mode);
-}
-
--- The setup of four numbers.
-abbrev pub given : ℕ → ℕ → ℕ → ℕ → Setup
-given n x y p = record { n = n; x = x; y = y; pressure = p }
-
--- Zeros and mode following.
-abbrev pub noState : ReaderState
-noState = record { setup = given 0 0 0 0; shown = zeros; pending = zeros; current = record { 0 = 0 }; mode = Following }
-
--- ---- answers
-
--- The four counts.
-abbrev pub countsFrom : R.Counts → Counts
-countsFrom c = record { shown = c .shown; skipped = c .skipped; bad = c .bad; ignored = c .ignored }
-
--- A run's answer.
-abbrev pub ranFrom : C.Ran → RunAnswer
-ranFrom a = record { verdict = verdictFrom (a .verdict); state = held (a .state); counts = countsFrom (a .counts) }
-
--- A fresh state's answer.
-abbrev pub freshFrom : C.FreshReader → FreshAnswer
-freshFrom a = record { verdict = verdictFrom (a .verdict); state = held (a .state) }
 
 -- A load's answer.
 abbrev pub loadedFrom : C.Loaded → LoadAnswer

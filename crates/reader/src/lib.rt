@@ -1,52 +1,24 @@
-// The type B reader: from event records to a contact table. A host calls fresh, run, read_one, load and ask.
+// The type B reader: from event records to a contact table. A host calls ReaderState::fresh, run, read_one, load and ask.
 ghost use mathlib.Core.Path.{_≡_};
 ghost use mathlib.Core.Bool.{true};
-ghost use Prim.Native.Nat.{_<_, _≤_, _-_, _*_, _/_};
-ghost use lib.ListN.{length, getD};
 ghost use mathlib.Core.List.{[]};
-ghost use Rattle.model.specs.Panel.{base, setupGood};
-ghost use Rattle.model.specs.Records.{eventsFrom, eventsOf};
-ghost use Rattle.model.specs.Reader.{following, nothing, settledAt, run as runOver};
+ghost use Prim.Native.Nat.{_<_, _≤_, _*_};
+ghost use lib.ListN.{length, getD};
+ghost use Rattle.model.specs.Panel.{base};
+ghost use Rattle.model.specs.Records.{eventsOf};
+ghost use Rattle.model.specs.Reader.{following, run as runOver};
 ghost use Rattle.model.specs.States.{settled, readerGood, goodReader};
-ghost use Rattle.model.specs.Calls.{freshReaderCall, runCall, stepCall, isStale as staleMode, loadCall, askCall, askedIn};
-ghost use Rattle.model.proofs.Lost.{Lost};
-ghost use Rattle.panel.specs.Seen.{slotOf, tableOf, setupOf, panelSeen};
+ghost use Rattle.model.specs.Calls.{runCall, stepCall, isStale as staleMode, loadCall, askCall, askedIn};
+ghost use Rattle.panel.specs.Seen.{slotOf, tableOf, panelSeen};
 ghost use Rattle.records.specs.Seen.{eventOf};
-ghost use Rattle.reader.specs.Seen.{modeOf, readerOf, seen, given, noState, freshFrom, ranFrom, loadedFrom, askedFrom, refusedRun, loadTaken};
-ghost use Rattle.reader.specs.Runs.{onward, heard, onLost, lastMode as modeAfter, counted, endingAt, answered};
-
-pub enum Mode {
-    Following,
-    Dropped,
-    Stale,
-}
-
-pub struct ReaderState {
-    pub setup: panel::Setup,
-    pub shown: [panel::Slot; panel::RECORDS],
-    pub pending: [panel::Slot; panel::RECORDS],
-    pub current: panel::SlotNumber,
-    pub mode: Mode,
-}
-
-// A count is as wide as a slice's length, so it fits whatever comes.
-pub struct Counts {
-    pub shown: usize,
-    pub skipped: usize,
-    pub bad: usize,
-    pub ignored: usize,
-}
-
-pub struct RunAnswer {
-    pub verdict: panel::Verdict,
-    pub state: ReaderState,
-    pub counts: Counts,
-}
-
-pub struct FreshAnswer {
-    pub verdict: panel::Verdict,
-    pub state: ReaderState,
-}
+ghost use Rattle.runs.specs.Seen.{modeOf, seen, ranFrom};
+ghost use Rattle.runs.specs.Runs.{answered};
+ghost use Rattle.reader.specs.Seen.{loadedFrom, askedFrom, refusedRun, loadTaken};
+pub use runs::Counts;
+pub use runs::FreshAnswer;
+pub use runs::Mode;
+pub use runs::ReaderState;
+pub use runs::RunAnswer;
 
 pub struct LoadAnswer {
     pub verdict: panel::Verdict,
@@ -59,206 +31,6 @@ pub enum SlotAnswer {
     Unknown,
     NoSuchSlot,
     Refused(panel::Verdict),
-}
-
-// The mode after a record that finds it not following.
-fn lost_step(mode: Mode, e: records::Event) -> Mode
-    ensures { λ r. ⌜ modeOf r ≡ onLost (modeOf mode) (heard (eventOf e)) ⌝ }
-{
-    if e.kind != records::SYN {
-        return mode;
-    }
-    match mode {
-        Mode::Following => Mode::Following,
-        Mode::Dropped => {
-            if e.code == records::REPORT {
-                return Mode::Stale;
-            }
-            Mode::Dropped
-        }
-        Mode::Stale => {
-            if e.code == records::DROPPED {
-                return Mode::Dropped;
-            }
-            Mode::Stale
-        }
-    }
-}
-
-// The mode after all records from record k on.
-fn last_mode(m: Mode, bytes: &[u8], k: usize) -> Mode
-    requires { ⌜ k ≤ length (now bytes) / 8 ⌝ }
-    ensures { λ r. ⌜ modeOf r ≡ modeAfter (modeOf m) (eventsFrom (length (now (bytes .entry)) / 8 - k) (now (bytes .entry)) (8 * k)) ⌝ }
-{
-    let count = bytes.len() / 8;
-    let mut mode = m;
-    let mut i = k;
-    while i < count {
-        let e = records::record_at(bytes, 8 * i);
-        mode = lost_step(mode, e);
-        i += 1;
-    }
-    mode
-}
-
-// The rest of a run, from record k on, once the reader lost track: only a load leads back, so every record is ignored and only the mode moves.
-fn lost(
-    setup: panel::Setup,
-    shown: [panel::Slot; panel::RECORDS],
-    current: usize,
-    m: Mode,
-    bytes: &[u8],
-    k: usize,
-    frames: usize,
-    skipped: usize,
-    bad: usize,
-) -> RunAnswer
-    requires { ⌜ (k ≤ length (now bytes) / 8) × Lost (modeOf m) ⌝ }
-    ensures { λ r. ⌜ r ≡ answered setup (onward (panelSeen setup) (settledAt (tableOf shown) current (modeOf m)) (counted frames skipped bad) (eventsFrom (length (now (bytes .entry)) / 8 - k) (now (bytes .entry)) (8 * k))) ⌝ }
-{
-    let count = bytes.len() / 8;
-    let mode = last_mode(m, bytes, k);
-    RunAnswer {
-        verdict: panel::Verdict::Accepted,
-        state: ReaderState {
-            setup,
-            shown,
-            pending: shown,
-            current: panel::SlotNumber(current),
-            mode,
-        },
-        counts: Counts {
-            shown: frames,
-            skipped,
-            bad,
-            ignored: count - k,
-        },
-    }
-}
-
-// The end of a run that never lost track.
-fn kept(
-    setup: panel::Setup,
-    shown: [panel::Slot; panel::RECORDS],
-    pending: [panel::Slot; panel::RECORDS],
-    current: usize,
-    frames: usize,
-    skipped: usize,
-) -> RunAnswer
-    ensures { λ r. ⌜ r ≡ answered setup (endingAt (readerOf shown pending current following) (counted frames skipped 0)) ⌝ }
-{
-    RunAnswer {
-        verdict: panel::Verdict::Accepted,
-        state: ReaderState {
-            setup,
-            shown,
-            pending,
-            current: panel::SlotNumber(current),
-            mode: Mode::Following,
-        },
-        counts: Counts {
-            shown: frames,
-            skipped,
-            bad: 0,
-            ignored: 0,
-        },
-    }
-}
-
-// A run that begins following. The tables are changed in place: a table is copied at a report or a loss, never for another event.
-fn follow(
-    setup: panel::Setup,
-    shown0: [panel::Slot; panel::RECORDS],
-    pending0: [panel::Slot; panel::RECORDS],
-    current0: usize,
-    bytes: &[u8],
-) -> RunAnswer
-    requires { ⌜ (setupGood base (setupOf setup) ≡ true) × (current0 < 16) ⌝ }
-    ensures { λ r. ⌜ r ≡ answered setup (onward (panelSeen setup) (readerOf shown0 pending0 current0 following) nothing (eventsOf (now (bytes .entry)))) ⌝ }
-{
-    let count = bytes.len() / 8;
-    let mut shown = shown0;
-    let mut pending = pending0;
-    let mut current = current0;
-    let mut frames: usize = 0;
-    let mut skipped: usize = 0;
-    let mut k: usize = 0;
-    while k < count {
-        let e = records::record_at(bytes, 8 * k);
-        let a = acts::act_of(setup, e);
-        k += 1;
-        match a {
-            acts::Act::Skip => {
-                skipped += 1;
-            }
-            acts::Act::Bad => {
-                return lost(
-                    setup,
-                    shown,
-                    current,
-                    Mode::Dropped,
-                    bytes,
-                    k,
-                    frames,
-                    skipped,
-                    1,
-                );
-            }
-            acts::Act::Report => {
-                if panel::ids_differ(pending) {
-                    shown = pending;
-                    frames += 1;
-                } else {
-                    return lost(
-                        setup,
-                        shown,
-                        current,
-                        Mode::Stale,
-                        bytes,
-                        k,
-                        frames,
-                        skipped,
-                        1,
-                    );
-                }
-            }
-            acts::Act::Loss => {
-                return lost(
-                    setup,
-                    shown,
-                    current,
-                    Mode::Dropped,
-                    bytes,
-                    k,
-                    frames,
-                    skipped,
-                    0,
-                );
-            }
-            acts::Act::Select(s) => {
-                current = s;
-            }
-            acts::Act::Id(v) => {
-                let old = pending[current];
-                pending[current] = panel::Slot {
-                    id: panel::TrackingId(v),
-                    x: old.x,
-                    y: old.y,
-                    pressure: old.pressure,
-                };
-            }
-            acts::Act::X(v) => {
-                pending[current].x = v;
-            }
-            acts::Act::Y(v) => {
-                pending[current].y = v;
-            }
-            acts::Act::Pressure(v) => {
-                pending[current].pressure = v;
-            }
-        }
-    }
-    kept(setup, shown, pending, current, frames, skipped)
 }
 
 // Whether nothing is pending where the mode says so.
@@ -336,9 +108,9 @@ fn run_accepted(state: ReaderState, bytes: &[u8]) -> RunAnswer
     let current = state.current;
     let mode = state.mode;
     match mode {
-        Mode::Following => follow(setup, shown, pending, current.0, bytes),
-        Mode::Dropped => lost(setup, shown, current.0, Mode::Dropped, bytes, 0, 0, 0, 0),
-        Mode::Stale => lost(setup, shown, current.0, Mode::Stale, bytes, 0, 0, 0, 0),
+        Mode::Following => runs::follow(setup, shown, pending, current.0, bytes),
+        Mode::Dropped => runs::lost(setup, shown, current.0, Mode::Dropped, bytes, 0, 0, 0, 0),
+        Mode::Stale => runs::lost(setup, shown, current.0, Mode::Stale, bytes, 0, 0, 0, 0),
     }
 }
 
@@ -365,51 +137,6 @@ pub fn read_one(state: ReaderState, e: records::Event) -> RunAnswer
     let mut bytes = [0u8; 8];
     records::put(&mut bytes, e.kind, e.code, e.value);
     run_accepted(state, &bytes)
-}
-
-// What stands in a state's place with refusal 1.
-fn no_state() -> ReaderState
-    ensures { λ r. ⌜ r ≡ noState ⌝ }
-{
-    let t = panel::zero_table();
-    ReaderState {
-        setup: panel::Setup {
-            n: 0,
-            x: 0,
-            y: 0,
-            pressure: 0,
-        },
-        shown: t,
-        pending: t,
-        current: panel::SlotNumber(0),
-        mode: Mode::Following,
-    }
-}
-
-impl ReaderState {
-    // The fresh state of a panel, for any four numbers: refusal 1.
-    pub fn fresh(n: usize, x: u32, y: u32, pressure: u32) -> FreshAnswer
-        ensures { λ r. ⌜ r ≡ freshFrom (freshReaderCall base (setupOf (given n x y pressure))) ⌝ }
-    {
-        let setup = panel::Setup { n, x, y, pressure };
-        if !panel::setup_ok(setup) {
-            return FreshAnswer {
-                verdict: panel::Verdict::Setup,
-                state: no_state(),
-            };
-        }
-        let t = panel::unused_table();
-        FreshAnswer {
-            verdict: panel::Verdict::Accepted,
-            state: ReaderState {
-                setup,
-                shown: t,
-                pending: t,
-                current: panel::SlotNumber(0),
-                mode: Mode::Following,
-            },
-        }
-    }
 }
 
 fn is_stale(m: Mode) -> bool

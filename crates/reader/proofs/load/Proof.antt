@@ -8,8 +8,9 @@ use Rattle.model.specs.States.{readerGood}
 use Rattle.model.specs.Calls.{isStale}
 use Rattle.model.proofs.Answers.{load-bad-state, load-not-stale, load-bad-image, load-taken}
 use Rattle.panel.specs.declared.Verdict.the-variants as W
-use Rattle.reader.specs.Seen.{modeOf, seen, loadedFrom}
-use Rattle.reader.proofs.Turns.{state-back}
+use Rattle.runs.specs.Seen.{modeOf, seen}
+use Rattle.reader.specs.Seen.{loadedFrom}
+use Rattle.runs.proofs.Turns.{state-back}
 use Rattle.reader.proofs.States.{good-small, image-length}
 use Rattle.reader.proofs.load.Statement.{statement}
 use Rattle.reader.proofs.load.Tie as tie

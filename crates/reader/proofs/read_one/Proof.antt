@@ -14,9 +14,10 @@ use Rattle.model.proofs.Answers.{step-bad-state, step-whole}
 use Rattle.panel.specs.Seen.{panelSeen}
 use Rattle.panel.specs.declared.Verdict.the-variants as W
 use Rattle.records.specs.Seen.{eventOf}
-use Rattle.reader.specs.Seen.{seen, ranFrom, refusedRun}
-use Rattle.reader.specs.Runs.{answered}
-use Rattle.reader.proofs.Turns.{state-back}
+use Rattle.runs.specs.Seen.{seen, ranFrom}
+use Rattle.reader.specs.Seen.{refusedRun}
+use Rattle.runs.specs.Runs.{answered}
+use Rattle.runs.proofs.Turns.{state-back}
 use Rattle.reader.proofs.States.{one-record}
 use Rattle.reader.proofs.read_one.Statement.{statement}
 use Rattle.reader.proofs.read_one.Tie as tie

@@ -1,7 +1,7 @@
 -- `reader::run_accepted`: a run of a well-formed state, by its mode. Assumes nothing.
 use borrow.Author.Needs.{needs}
 use mathlib.Core.Path.{_∙_}
-use Rattle.reader.specs.declared.Mode.the-variants.{Dropped, Stale}
+use Rattle.runs.specs.declared.Mode.the-variants.{Dropped, Stale}
 use native.Mathlib.Omega.{arith}
 use Rattle.reader.proofs.States.{good-setup, good-current, good-small, follow-run, lost-run}
 use Rattle.reader.proofs.run_accepted.Statement.{statement}

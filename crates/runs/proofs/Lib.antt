@@ -1,0 +1,4 @@
+-- The laws behind the run.
+pub mod Runs
+pub mod Waits
+pub mod Turns
