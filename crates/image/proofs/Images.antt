@@ -1,17 +1,17 @@
 -- An image's rows one by one, and the table as it is filled. Cited by the proofs here. Assumes nothing.
 use mathlib.Core.Path.{_≡_, refl, sym, ap, ap₂, _∙_}
-use mathlib.Core.Bool.{true, _&&_}
+use mathlib.Core.Bool.{true, false, _&&_}
 use mathlib.Core.List.{List, [], _∷_, _++_, append-assoc}
 use Prim.Native.Nat.{ℕ, zero, suc, _+_, _-_, _*_, _≤_, _<_}
 use native.Mathlib.Omega.{arith}
 use lib.IntN.{ℤ, pos}
 use lib.ListN.{length, getD, set, replicate, length-append, length-map, length-replicate}
 use lib.Seq.{set-at}
-use borrow.Author.Tests.{eq-eqb}
+use borrow.Author.Tests.{eq-eqb, ne-eqb}
 use Rattle.model.specs.Panel.{Field}
 use Rattle.model.specs.Table as T
 use Rattle.model.specs.Frame.{numbersFrom, rowsFrom}
-use Rattle.model.specs.Calls.{imageTable}
+use Rattle.model.specs.Calls.{imageTable, imageGood}
 use Rattle.model.proofs.Calls.{length-rowsFrom}
 use Rattle.model.proofs.Tables.{good-pad, map-append, map-replicate}
 use Rattle.panel.specs.Seen.{tableOf, slotFrom, tableFrom, fieldsOf, panelSeen, unused, unusedAll}
@@ -77,6 +77,10 @@ filled-end u l =
     sym (map-append slotFrom t (replicate (16 - u .n) (T.unusedSlot (fieldsOf u))) ∙ ap (λ w. tableFrom t ++ w) (map-replicate slotFrom (16 - u .n) (T.unusedSlot (fieldsOf u))))
 
 -- ---- the image's tests
+
+-- An image of another length is not good.
+pub other-length : (u : Setup) (l : List ℤ) (c : ℕ) → (length l ≡ 4 * u .n → ⊥) → imageGood (panelSeen u) l c ≡ false
+other-length u l c e = rw (ne-eqb (length l) (4 * u .n) e)
 
 -- Good rows make a good table.
 pub image-records : (u : Setup) (l : List ℤ) → u .n ≤ 16 → T.goodTable (panelSeen u) (imageTable (panelSeen u) l) ≡ T.goodRecords (fieldsOf u) (u .n) (rowsFrom 4 (u .n) l 0)

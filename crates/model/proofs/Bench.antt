@@ -5,12 +5,13 @@ use Rattle.model.specs.Records.{bitsOf, signedOf, recordBytes, bytesOf, 
 use Rattle.model.specs.Frame.{rowsFrom, freeId}
 use Rattle.model.specs.Reader.{run}
 use Rattle.model.specs.States.{writerGood, readerGood}
+use Rattle.model.specs.Pod.{kindOf, wellFormed, signed, fed, step}
 use Rattle.model.specs.Calls.{writeVerdict, writeCall, writeBuffer, runVerdict, runCall}
 use Rattle.model.specs.Bench.{Row, outcome, sheet, replaced}
 
--- Every row: the writer's whole answer, every byte of the buffer, and the table read back.
+-- Every row: the writer's whole answer, every byte of the buffer, and the table read back; or the pod's state and answers.
 sheet-holds : map (λ (r : Row). outcome (r .given)) sheet ≡ map (λ (r : Row). r .gives) sheet
-unfolding bitsOf signedOf recordBytes bytesOf eventsFrom lay rowsFrom freeId run writerGood readerGood writeVerdict writeCall writeBuffer runVerdict runCall
+unfolding kindOf wellFormed signed fed step bitsOf signedOf recordBytes bytesOf eventsFrom lay rowsFrom freeId run writerGood readerGood writeVerdict writeCall writeBuffer runVerdict runCall
 sheet-holds = refl
 
 -- A replaced id is not free within its own frame.

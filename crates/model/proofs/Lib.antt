@@ -19,4 +19,6 @@ pub mod Bytes
 pub mod Layouts
 pub mod Calls
 pub mod Answers
+pub mod FirstBytes
+pub mod Pod
 pub mod Instances

@@ -1,5 +1,5 @@
 -- The bench sheet's cases marked P, as one table: what is given, and what document 01 says comes of it. Bench of proofs/ shows every row. Assumes nothing.
--- P9, the pod's row, joins this table with the pod's definitions.
+use mathlib.Core.Bool.{false}
 use mathlib.Core.List.{List, [], _∷_, _++_}
 use Prim.Native.Nat.{ℕ, _-_}
 use lib.IntN.{ℤ, pos, negsuc}
@@ -10,17 +10,21 @@ use Rattle.model.specs.Events.{Event}
 use Rattle.model.specs.Records.{bytesOf}
 use Rattle.model.specs.Reader.{Counts, nothing, oneShown, follow}
 use Rattle.model.specs.States.{WriterState, ReaderState}
+use Rattle.model.specs.Pod as P
 use Rattle.model.specs.Calls.{accepted, Written, writeCall, writeBuffer, Ran, runCall}
 
 -- ---- a case and its outcome
 
--- A writer's state, a frame, a buffer that is lent whole from its start.
+-- A writer's state, a frame and a buffer that is lent whole from its start; or bytes that a fresh pod state is given.
 pub data Case : Type 0 where
   frame : WriterState → List ℤ → List ℕ → Case
+  podBytes : List ℕ → Case
 
--- The writer's answer, the buffer afterwards, and what a following reader of the same setup, table and current slot makes of the buffer.
+-- The writer's answer, the buffer afterwards, and what a following reader of the same setup, table and current slot makes of the buffer;
+-- or the pod's state and its answers other than "more".
 pub data Outcome : Type 0 where
   wrote : Written → List ℕ → Ran → Outcome
+  heard : P.Ran → Outcome
 
 -- A reader that shows the writer's table and has nothing pending.
 abbrev pub pupil : WriterState → ReaderState
@@ -29,6 +33,7 @@ pupil s = record { setup = s .setup; reader = follow (s .writer .table) (s .writ
 -- What the definitions give for a case.
 abbrev pub outcome : Case → Outcome
 outcome (frame s f buf) = wrote (writeCall base s f 0 (length buf)) (writeBuffer base s f 0 buf) (runCall base (pupil s) (writeBuffer base s f 0 buf))
+outcome (podBytes bs) = heard (P.run P.fresh bs)
 
 -- One row of the sheet.
 pub record Row : Type 0 where
@@ -113,7 +118,7 @@ bytes1 =
 
 -- ---- the sheet
 
--- P1 to P8; P2 to P7 each follow the row before.
+-- P1 to P9; P2 to P7 each follow the row before.
 abbrev pub sheet : List Row
 sheet =
     turns fresh (kind 1 100 200 30 ++ kind 0 0 0 0) bytes1 5 1 after1 oneShown
@@ -131,6 +136,7 @@ sheet =
     5
     (writer 3 (at (pos 65_535) 1 2 3 ∷ at (pos 0) 5 5 5 ∷ at (pos 1) 7 8 9 ∷ []) 2 2)
     oneShown
+    ∷ record { given = podBytes (0xf8 ∷ 0x80 ∷ 0x7f ∷ []); gives = heard (record { state = P.fresh; reports = P.relative false false (negsuc 127) (pos 127) ∷ [] }) }
     ∷ []
 
 -- Not marked P, and yet shown: one slot, id 7 live, counter 7, kind 2 with the same numbers. Freeing the replaced id would send nothing.

@@ -9,4 +9,5 @@ pub mod Sending
 pub mod Reader
 pub mod States
 pub mod Calls
+pub mod Pod
 pub mod Bench

@@ -1,11 +1,11 @@
 -- `image::image_ok` tells whether an image may be loaded: its length, its rows, its ids, the current slot. Assumes nothing.
 use borrow.Author.Needs.{needs}
 use mathlib.Core.Path.{_≡_, sym, ap, _∙_}
-use borrow.Author.Tests.{not-true, not-false, ne-eqb, eq-eqb}
+use borrow.Author.Tests.{not-true, not-false, eq-eqb}
 use Rattle.model.specs.Table.{goodTable, idsDiffer}
 use Rattle.model.specs.Calls.{imageTable}
 use Rattle.panel.specs.Seen.{panelSeen, tableOf}
-use Rattle.image.proofs.Images.{image-records, ids-held}
+use Rattle.image.proofs.Images.{other-length, image-records, ids-held}
 use Rattle.image.proofs.image_ok.Statement.{statement}
 use Rattle.image.proofs.image_ok.Tie as tie
 
@@ -19,7 +19,9 @@ mul-if1 : tie.Need-mul-if1
 mul-if1 c = search needs
 
 returns : tie.Need-returns
-returns c = rw (ne-eqb _ _ (c .if1 .taken))
+returns c =
+    let a = c .before .before .args in
+    sym (other-length (a .setup) (a .image .now) (a .current) (c .if1 .taken))
 
 rows-ok-requires : tie.Need-rows-ok-requires
 rows-ok-requires c κs = search needs

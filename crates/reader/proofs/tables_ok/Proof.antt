@@ -3,7 +3,7 @@ use borrow.Author.Needs.{needs}
 use borrow.Author.Tests.{not-true, not-false, le-ltb, lt-ltb}
 use mathlib.Core.Path.{_≡_, sym, _∙_}
 use lib.ListN.{length}
-use Rattle.model.specs.Table.{goodTable}
+use Rattle.model.specs.Table.{goodTable, idsDiffer}
 use Rattle.panel.specs.Seen.{panelSeen, tableOf}
 use Rattle.panel.proofs.Tables.{unmapped, table-good}
 use Rattle.reader.proofs.tables_ok.Statement.{statement}
@@ -20,6 +20,9 @@ pending-is c =
     let s = c .before .before .before .before .before .before .args .s in
     let len : length (s .pending) ≡ 16 = search (needs, unmapped) in
     c .table-ok2 .ensures ∙ sym (table-good (s .setup) (s .pending) len)
+
+ids-are : (c : tie.After-ids-differ) → c .ids-differ .result ≡ idsDiffer (tableOf (c .before .before .before .before .before .before .before .before .args .s .shown))
+ids-are c = c .ids-differ .ensures
 
 table-ok-requires : tie.Need-table-ok-requires
 table-ok-requires c κs = search needs
@@ -42,7 +45,7 @@ returns-3 : tie.Need-returns-3
 returns-3 c =
     let p = c .before .before .before in
     let t = p .before .before .before in
-    rw (← shown-is t, not-false (t .table-ok .result) (p .before .before .if1 .left), ← pending-is p, not-false (p .table-ok2 .result) (c .before .before .if2 .left), ← c .before .ids-differ .ensures, not-true (c .before .ids-differ .result) (c .if3 .taken))
+    rw (← shown-is t, not-false (t .table-ok .result) (p .before .before .if1 .left), ← pending-is p, not-false (p .table-ok2 .result) (c .before .before .if2 .left), ← ids-are (c .before), not-true (c .before .ids-differ .result) (c .if3 .taken))
 
 returns-4 : tie.Need-returns-4
 returns-4 c =
@@ -50,7 +53,7 @@ returns-4 c =
     let p = i .before .before in
     let t = p .before .before .before in
     let s = t .before .before .before .args .s in
-    rw (← shown-is t, not-false (t .table-ok .result) (p .before .before .if1 .left), ← pending-is p, not-false (p .table-ok2 .result) (i .before .if2 .left), ← i .ids-differ .ensures, not-false (i .ids-differ .result) (c .before .before .before .before .if3 .left), le-ltb (s .current .0) (s .setup .n) (c .if4 .taken))
+    rw (← shown-is t, not-false (t .table-ok .result) (p .before .before .if1 .left), ← pending-is p, not-false (p .table-ok2 .result) (i .before .if2 .left), ← ids-are i, not-false (i .ids-differ .result) (c .before .before .before .before .if3 .left), le-ltb (s .current .0) (s .setup .n) (c .if4 .taken))
 
 settled-ok-requires : tie.Need-settled-ok-requires
 settled-ok-requires c κs = search needs
@@ -61,7 +64,7 @@ returns-5 c =
     let p = i .before .before in
     let t = p .before .before .before in
     let s = t .before .before .before .args .s in
-    rw (← shown-is t, not-false (t .table-ok .result) (p .before .before .if1 .left), ← pending-is p, not-false (p .table-ok2 .result) (i .before .if2 .left), ← i .ids-differ .ensures, not-false (i .ids-differ .result) (c .before .before .before .before .before .if3 .left), lt-ltb (s .current .0) (s .setup .n) (c .before .if4 .left)) (c .settled-ok .ensures)
+    rw (← shown-is t, not-false (t .table-ok .result) (p .before .before .if1 .left), ← pending-is p, not-false (p .table-ok2 .result) (i .before .if2 .left), ← ids-are i, not-false (i .ids-differ .result) (c .before .before .before .before .before .if3 .left), lt-ltb (s .current .0) (s .setup .n) (c .before .if4 .left)) (c .settled-ok .ensures)
 
 pub tables-ok-spec : {M : Type 1} → statement M
 tables-ok-spec =

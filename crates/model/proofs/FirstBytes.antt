@@ -1,0 +1,70 @@
+-- The rows of the table of first bytes, each by its bounds. Cited by the proof of the crate pod's one decision over a first byte.
+-- Assumes nothing.
+use mathlib.Core.Path.{_≡_}
+use mathlib.Core.Bool.{true, false, and-false}
+use Prim.Native.Nat.{ℕ, _-_, _/_, _%_, _≤_, _<_}
+use native.Mathlib.Omega.{arith}
+use lib.Dec.{leb, eqb}
+use borrow.Author.Tests.{le-leb, lt-leb}
+use Rattle.model.specs.Numbers.{between}
+use Rattle.model.specs.Pod.{kindOf, keyDownReport, keyUpReport, relativeReport, oneStickReport, badByteReport}
+
+-- A byte within a range is in it.
+within : (low high b : ℕ) → low ≤ b → b ≤ high → between low high b ≡ true
+within low high b l h = rw (le-leb low b l, le-leb b high h)
+
+-- A byte under a range is not in it.
+under : (low high b : ℕ) → b < low → between low high b ≡ false
+under low high b h = rw (lt-leb low b h)
+
+-- A byte over a range is not in it.
+over : (low high b : ℕ) → high < b → between low high b ≡ false
+over low high b h = rw (lt-leb b high h) (and-false (leb low b))
+
+module _ (b : ℕ) where
+  -- 0x01 to 0x75 are keys going down.
+  pub key-down-row : 0x01 ≤ b → b ≤ 0x75 → kindOf b ≡ keyDownReport b
+  unfolding kindOf
+  key-down-row l h = rw (within 0x01 0x75 b l h)
+
+  -- 0x76 to 0x80, between the keys going down and those coming up, are bad bytes.
+  pub gap-row : 0x76 ≤ b → b ≤ 0x80 → kindOf b ≡ badByteReport
+  unfolding kindOf
+  gap-row l h =
+      rw (
+        over 0x01 0x75 b (omega arith),
+        under 0x81 0xf5 b (omega arith),
+        under 0xf7 0xf7 b (omega arith),
+        under 0xf8 0xfb b (omega arith),
+        under 0xfd 0xfd b (omega arith),
+        under 0xfe 0xff b (omega arith),
+      )
+
+  -- 0x81 to 0xF5 are keys coming up.
+  pub key-up-row : 0x81 ≤ b → b ≤ 0xf5 → kindOf b ≡ keyUpReport (b - 0x80)
+  unfolding kindOf
+  key-up-row l h = rw (over 0x01 0x75 b (omega arith), within 0x81 0xf5 b l h)
+
+  -- 0xF8 to 0xFB open relative reports.
+  pub relative-row : 0xf8 ≤ b → b ≤ 0xfb → kindOf b ≡ relativeReport (eqb (b / 2 % 2) 1) (eqb (b % 2) 1)
+  unfolding kindOf
+  relative-row l h =
+      rw (
+        over 0x01 0x75 b (omega arith),
+        over 0x81 0xf5 b (omega arith),
+        over 0xf7 0xf7 b (omega arith),
+        within 0xf8 0xfb b l h,
+      )
+
+  -- 0xFE and 0xFF open reports of one stick.
+  pub one-stick-row : 0xfe ≤ b → b ≤ 0xff → kindOf b ≡ oneStickReport (b - 0xfe)
+  unfolding kindOf
+  one-stick-row l h =
+      rw (
+        over 0x01 0x75 b (omega arith),
+        over 0x81 0xf5 b (omega arith),
+        over 0xf7 0xf7 b (omega arith),
+        over 0xf8 0xfb b (omega arith),
+        over 0xfd 0xfd b (omega arith),
+        within 0xfe 0xff b l h,
+      )

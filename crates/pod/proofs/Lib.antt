@@ -1,0 +1,3 @@
+-- The pod's laws: bytes and places (Laws), and what its promises settle (Promises). Assumes nothing.
+pub mod Laws
+pub mod Promises

@@ -1,0 +1,66 @@
+-- What the pod's promises settle: one answer for every input, document 01's refusal number and numbers of it, and well-formed states.
+-- Cited by the proofs of show_pod; assumes nothing.
+use mathlib.Core.Path.{_≡_, refl, sym, ap, _∙_}
+use mathlib.Core.Bool.{true, cond}
+use mathlib.Core.List.{List, _∷_, _++_}
+use Prim.Native.Nat.{ℕ}
+use Rattle.model.specs.Pod as M
+use Rattle.model.proofs.Pod.{step-formed, refusal-exact, run-cut}
+use Rattle.pod.specs.declared.PodState.{PodState}
+use Rattle.pod.specs.declared.PodAnswer.{PodAnswer}
+use Rattle.pod.specs.Seen.{seen, held, heldReport, reportSeen, refusalOf, numbersOf, freshState, stepAnswer, stateAfter}
+
+-- What is seen of a state is held again.
+pub held-seen : (s : PodState) → held (seen s) ≡ s
+held-seen s = refl
+
+-- What is held of a state is seen again.
+pub seen-held : (s : M.State) → seen (held s) ≡ s
+seen-held s = refl
+
+-- What is held of an answer is seen again.
+pub report-seen : (r : M.Report) → reportSeen (heldReport r) ≡ r
+report-seen M.more = refl
+report-seen (M.keyDown key) = refl
+report-seen (M.keyUp key) = refl
+report-seen (M.absolute flags x y) = refl
+report-seen (M.relative left right dx dy) = refl
+report-seen (M.bothSticks t0 p0 t1 p1) = refl
+report-seen (M.oneStick which t p) = refl
+report-seen M.badByte = refl
+report-seen M.badReport = refl
+report-seen M.refused = refl
+
+-- Two values that equal a third are equal.
+settled : {A : Type 0} {x a b : A} → a ≡ x → b ≡ x → a ≡ b
+settled p q = p ∙ sym q
+
+-- Any two results that `fresh` allows are equal.
+pub settled-fresh : (a b : PodState) → a ≡ freshState → b ≡ freshState → a ≡ b
+settled-fresh a b p q = settled p q
+
+-- Any two results that `step` allows are equal.
+pub settled-step : (s : PodState) (byte : ℕ) (a b : PodAnswer) → a ≡ stepAnswer s byte → b ≡ stepAnswer s byte → a ≡ b
+settled-step s byte a b p q = settled p q
+
+-- A step keeps a state well formed.
+pub step-steady : (s : PodState) (byte : ℕ) → M.wellFormed (seen s) ≡ true → M.wellFormed (seen (stepAnswer s byte .state)) ≡ true
+step-steady s byte e = step-formed (seen s) byte e
+
+-- The refusal number of a step is 2 exactly when the state is not well formed, else 0.
+pub step-refusal : (s : PodState) (byte : ℕ) → refusalOf (stepAnswer s byte .report) ≡ cond (M.wellFormed (seen s)) 0 2
+step-refusal s byte = ap M.reportRefusal (report-seen (M.step (seen s) byte .report)) ∙ refusal-exact (seen s) byte
+
+-- The numbers of a step are the model's.
+pub step-numbers : (s : PodState) (byte : ℕ) → numbersOf (stepAnswer s byte .report) ≡ M.reportNumbers (M.step (seen s) byte .report)
+step-numbers s byte = ap M.reportNumbers (report-seen (M.step (seen s) byte .report))
+
+-- ---- a run
+
+-- The state after a byte and others is that after the others, from the state that the byte's step leaves.
+pub after-one : (s : PodState) (b : ℕ) (bs : List ℕ) → stateAfter s (b ∷ bs) ≡ stateAfter (stepAnswer s b .state) bs
+after-one s b bs = refl
+
+-- The state after bytes and then others does not depend on the cut.
+pub after-cut : (s : PodState) (xs ys : List ℕ) → stateAfter s (xs ++ ys) ≡ stateAfter (stateAfter s xs) ys
+after-cut s xs ys = ap (λ r. held (r .state)) (run-cut (seen s) xs ys)

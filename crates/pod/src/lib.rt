@@ -1,0 +1,329 @@
+// The pod reader of document 01, "Pod reports": one byte at a time, the state holds the unfinished report. Called by show_pod and by a
+// host; `PodState::fresh` and `step` are the public functions, neither requires anything, and what they answer is the model's.
+ghost use mathlib.Core.Path.{_≡_};
+ghost use mathlib.Core.List.{_∷_, [], _++_};
+ghost use Prim.Native.Nat.{_-_, _≤_};
+ghost use lib.ListN.{take, drop};
+ghost use Rattle.model.specs.Pod.{kindOf, lengthOf, places, heldIn, unfinished, zeros, wellFormed, relative, word, signed, goodStick, judgedAbsolute, judgedBoth, judgedStick, judged, firstOf};
+ghost use Rattle.pod.specs.Seen.{kindSeen, seen, heldStick, heldReport, freshState, stepAnswer};
+
+// One fewer than the longest report has bytes, since its last byte is never held.
+pub const PLACES: usize = 5;
+
+// The places from `count` on are unused, and 0 in a well-formed state.
+pub struct PodState {
+    pub bytes: [u8; PLACES],
+    pub count: usize,
+}
+
+pub struct KeyDown {
+    pub key: u8,
+}
+
+impl KeyDown {
+    pub const LENGTH: usize = 1;
+}
+
+pub struct KeyUp {
+    pub key: u8,
+}
+
+impl KeyUp {
+    pub const LENGTH: usize = 1;
+}
+
+pub struct Absolute {
+    pub flags: u8,
+    pub x: u16,
+    pub y: u16,
+}
+
+impl Absolute {
+    pub const LENGTH: usize = 6;
+}
+
+pub struct Relative {
+    pub left: bool,
+    pub right: bool,
+    pub dx: i8,
+    pub dy: i8,
+}
+
+impl Relative {
+    pub const LENGTH: usize = 3;
+}
+
+pub struct Stick {
+    pub trigger: bool,
+    pub position: u8,
+}
+
+pub struct BothSticks {
+    pub stick0: Stick,
+    pub stick1: Stick,
+}
+
+impl BothSticks {
+    pub const LENGTH: usize = 3;
+}
+
+pub struct OneStick {
+    pub which: u8,
+    pub stick: Stick,
+}
+
+impl OneStick {
+    pub const LENGTH: usize = 2;
+}
+
+// It says nothing, and is here for its length: a bad byte is a row of the table like the others.
+pub struct BadByte {}
+
+impl BadByte {
+    pub const LENGTH: usize = 1;
+}
+
+pub enum Report {
+    More,
+    KeyDown(KeyDown),
+    KeyUp(KeyUp),
+    Absolute(Absolute),
+    Relative(Relative),
+    BothSticks(BothSticks),
+    OneStick(OneStick),
+    BadByte(BadByte),
+    BadReport,
+    // refusal 2, STATE
+    Refused,
+}
+
+pub struct PodAnswer {
+    pub state: PodState,
+    pub report: Report,
+}
+
+// What a first byte opens, with what it says by itself: the key; left and right; which stick.
+enum Kind {
+    KeyDown(u8),
+    KeyUp(u8),
+    Absolute,
+    Relative(bool, bool),
+    BothSticks,
+    OneStick(u8),
+    BadByte,
+}
+
+impl PodState {
+    // The state that holds nothing.
+    pub fn fresh() -> Self
+        ensures { λ r. ⌜ r ≡ freshState ⌝ }
+    {
+        PodState {
+            bytes: [0; PLACES],
+            count: 0,
+        }
+    }
+}
+
+// The one decision over a first byte.
+fn kind_of(first: u8) -> Kind
+    ensures { λ r. ⌜ kindSeen r ≡ kindOf first ⌝ }
+{
+    match first {
+        0x01..=0x75 => Kind::KeyDown(first),
+        0x81..=0xf5 => Kind::KeyUp(first - 0x80),
+        0xf7 => Kind::Absolute,
+        0xf8..=0xfb => Kind::Relative(first / 2 % 2 == 1, first % 2 == 1),
+        0xfd => Kind::BothSticks,
+        0xfe..=0xff => Kind::OneStick(first - 0xfe),
+        _ => Kind::BadByte,
+    }
+}
+
+fn length_of(kind: Kind) -> usize
+    ensures { λ r. ⌜ r ≡ lengthOf (kindSeen kind) ⌝ }
+{
+    match kind {
+        Kind::KeyDown(_) => KeyDown::LENGTH,
+        Kind::KeyUp(_) => KeyUp::LENGTH,
+        Kind::Absolute => Absolute::LENGTH,
+        Kind::Relative(_, _) => Relative::LENGTH,
+        Kind::BothSticks => BothSticks::LENGTH,
+        Kind::OneStick(_) => OneStick::LENGTH,
+        Kind::BadByte => BadByte::LENGTH,
+    }
+}
+
+// By the complement, since no cast of 0x80 and more to an i8 is defined.
+fn signed_of(b: u8) -> i8
+    ensures { λ r. ⌜ r ≡ signed b ⌝ }
+{
+    if b < 0x80 {
+        return b as i8;
+    }
+    !((0xff - b) as i8)
+}
+
+fn join(high: u8, low: u8) -> u16
+    ensures { λ r. ⌜ r ≡ word high low ⌝ }
+{
+    256 * (high as u16) + (low as u16)
+}
+
+// Whether a stick byte is x000yyyy.
+fn stick_ok(b: u8) -> bool
+    ensures { λ r. ⌜ r ≡ goodStick b ⌝ }
+{
+    b / 16 % 8 == 0
+}
+
+fn stick_of(b: u8) -> Stick
+    ensures { λ r. ⌜ r ≡ heldStick b ⌝ }
+{
+    Stick {
+        trigger: b / 128 == 1,
+        position: b % 16,
+    }
+}
+
+fn judge_absolute(flags: u8, x: u16, y: u16) -> Report
+    ensures { λ r. ⌜ r ≡ heldReport (judgedAbsolute flags x y) ⌝ }
+{
+    if flags / 16 != 0 {
+        return Report::BadReport;
+    }
+    Report::Absolute(Absolute { flags, x, y })
+}
+
+fn relative_of(left: bool, right: bool, dx: u8, dy: u8) -> Report
+    ensures { λ r. ⌜ r ≡ heldReport (relative left right (signed dx) (signed dy)) ⌝ }
+{
+    let dx = signed_of(dx);
+    let dy = signed_of(dy);
+    Report::Relative(Relative {
+        left,
+        right,
+        dx,
+        dy,
+    })
+}
+
+fn judge_both(s0: u8, s1: u8) -> Report
+    ensures { λ r. ⌜ r ≡ heldReport (judgedBoth s0 s1) ⌝ }
+{
+    if !stick_ok(s0) {
+        return Report::BadReport;
+    }
+    if !stick_ok(s1) {
+        return Report::BadReport;
+    }
+    let stick0 = stick_of(s0);
+    let stick1 = stick_of(s1);
+    Report::BothSticks(BothSticks { stick0, stick1 })
+}
+
+fn judge_stick(which: u8, s: u8) -> Report
+    ensures { λ r. ⌜ r ≡ heldReport (judgedStick which s) ⌝ }
+{
+    if !stick_ok(s) {
+        return Report::BadReport;
+    }
+    let stick = stick_of(s);
+    Report::OneStick(OneStick { which, stick })
+}
+
+// A whole report: as many of the places as its kind has bytes before the last one, and the last one.
+fn judge(kind: Kind, bytes: [u8; PLACES], last: u8) -> Report
+    ensures { λ r. ⌜ r ≡ heldReport (judged (kindSeen kind) (take (lengthOf (kindSeen kind) - 1) bytes ++ last ∷ [])) ⌝ }
+{
+    match kind {
+        Kind::KeyDown(key) => Report::KeyDown(KeyDown { key }),
+        Kind::KeyUp(key) => Report::KeyUp(KeyUp { key }),
+        Kind::Absolute => {
+            let x = join(bytes[2], bytes[3]);
+            let y = join(bytes[4], last);
+            judge_absolute(bytes[1], x, y)
+        }
+        Kind::Relative(left, right) => relative_of(left, right, bytes[1], last),
+        Kind::BothSticks => judge_both(bytes[1], last),
+        Kind::OneStick(which) => judge_stick(which, last),
+        Kind::BadByte => Report::BadByte(BadByte {}),
+    }
+}
+
+fn unused_clear(bytes: [u8; PLACES], count: usize) -> bool
+    ensures { λ r. ⌜ r ≡ zeros (drop count bytes) ⌝ }
+{
+    let mut i = count;
+    while i < PLACES {
+        if bytes[i] != 0 {
+            return false;
+        }
+        i += 1;
+    }
+    true
+}
+
+// That the first byte opens a longer report needs no test of its own: a byte is held, and fewer than the report's length are.
+fn begun(bytes: [u8; PLACES], count: usize) -> bool
+    requires { ⌜ count ≤ places ⌝ }
+    ensures { λ r. ⌜ r ≡ unfinished (take count bytes) ⌝ }
+{
+    if count == 0 {
+        return true;
+    }
+    count < length_of(kind_of(bytes[0]))
+}
+
+fn well_formed(state: PodState) -> bool
+    ensures { λ r. ⌜ r ≡ wellFormed (seen state) ⌝ }
+{
+    let count = state.count;
+    let bytes = state.bytes;
+    if PLACES < count {
+        return false;
+    }
+    if !begun(bytes, count) {
+        return false;
+    }
+    unused_clear(bytes, count)
+}
+
+fn first_of(state: PodState, byte: u8) -> u8
+    ensures { λ r. ⌜ r ≡ firstOf (heldIn (seen state)) byte ⌝ }
+{
+    if state.count == 0 {
+        return byte;
+    }
+    state.bytes[0]
+}
+
+// One byte: the state after it, and its answer. A state that is not well formed comes back as it is, and the byte is not read.
+pub fn step(state: PodState, byte: u8) -> PodAnswer
+    ensures { λ r. ⌜ r ≡ stepAnswer state byte ⌝ }
+{
+    if !well_formed(state) {
+        return PodAnswer {
+            state,
+            report: Report::Refused,
+        };
+    }
+    let count = state.count;
+    let bytes = state.bytes;
+    let kind = kind_of(first_of(state, byte));
+    if count + 1 < length_of(kind) {
+        let mut next = state;
+        next.bytes[count] = byte;
+        next.count = count + 1;
+        return PodAnswer {
+            state: next,
+            report: Report::More,
+        };
+    }
+    let report = judge(kind, bytes, byte);
+    let empty = PodState::fresh();
+    PodAnswer {
+        state: empty,
+        report,
+    }
+}
