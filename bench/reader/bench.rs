@@ -58,12 +58,13 @@ fn ids_differ(t: &[Slot; RECORDS]) -> bool {
 }
 
 impl Reader {
-    fn fresh(setup: Setup) -> Option<Reader> {
-        if !setup_ok(&setup) {
-            return None;
+    // A table of numbers, four for each slot.
+    fn showing(setup: Setup, numbers: &[i32]) -> Reader {
+        let mut t = [UNUSED; RECORDS];
+        for (slot, four) in t.iter_mut().zip(numbers.chunks_exact(4)) {
+            *slot = Slot { id: four[0], x: four[1].max(0) as u32, y: four[2].max(0) as u32, pressure: four[3].max(0) as u32 };
         }
-        let t = [UNUSED; RECORDS];
-        Some(Reader { setup, shown: t, pending: t, current: 0, mode: Mode::Following })
+        Reader { setup, shown: t, pending: t, current: 0, mode: Mode::Following }
     }
 
     fn table_ok(&self, t: &[Slot; RECORDS]) -> bool {
@@ -154,23 +155,24 @@ impl Reader {
     }
 }
 
-fn folded(t: &[Slot; RECORDS]) -> u64 {
-    t.iter().fold(0, |sum, s| sum ^ (s.x as u64 + 65536 * s.y as u64) ^ (65536 * s.pressure as u64))
+fn folded(t: &[Slot; RECORDS], n: usize) -> u64 {
+    t.iter().take(n).fold(0, |sum, s| sum ^ (s.x as u64 + 65536 * s.y as u64) ^ (65536 * s.pressure as u64))
 }
 
 #[no_mangle]
 #[inline(never)]
-pub extern "C" fn rust_read(n: usize, x: u32, y: u32, pressure: u32, bytes: *const u8, len: usize) -> u64 {
+pub extern "C" fn rust_read(n: usize, x: u32, y: u32, pressure: u32, numbers: *const i32, count: usize, bytes: *const u8, len: usize) -> u64 {
+    let numbers = unsafe { std::slice::from_raw_parts(numbers, count) };
     let bytes = unsafe { std::slice::from_raw_parts(bytes, len) };
-    let Some(mut r) = Reader::fresh(Setup { n, x, y, pressure }) else { return 0 };
+    let mut r = Reader::showing(Setup { n, x, y, pressure }, numbers);
     match r.run(bytes) {
-        Ok(c) => folded(&r.shown) ^ folded(&r.pending) ^ c.shown as u64 ^ c.skipped as u64,
+        Ok(c) => folded(&r.shown, n) ^ folded(&r.pending, n) ^ c.shown as u64 ^ c.skipped as u64,
         Err(_) => 0,
     }
 }
 
 extern "C" {
-    fn rattle_read(n: usize, x: u32, y: u32, pressure: u32, bytes: *const u8, len: usize) -> u64;
+    fn rattle_read(n: usize, x: u32, y: u32, pressure: u32, numbers: *const i32, count: usize, bytes: *const u8, len: usize) -> u64;
 }
 
 fn put(out: &mut Vec<u8>, kind: u16, code: u16, value: i32) {
@@ -187,10 +189,6 @@ fn load(name: &str) -> Vec<u8> {
         "all" => (100, 16),
         _ => (0, 0),
     };
-    for s in 0..16 {
-        put(&mut out, 3, 0x2f, s);
-        put(&mut out, 3, 0x39, s);
-    }
     for f in 0..frames {
         for k in 0..slots {
             put(&mut out, 3, 0x2f, (f + k) % 16);
@@ -203,7 +201,7 @@ fn load(name: &str) -> Vec<u8> {
         put(&mut out, 0, 0, 0);
     }
     if frames == 0 {
-        for i in 0..368 {
+        for i in 0..400 {
             put(&mut out, 3, 0x35 + (i % 2) as u16, i);
         }
     }
@@ -217,9 +215,8 @@ fn main() {
         std::process::exit(2);
     }
     let bytes = load(&args[2]);
-    let answer = match args[1].as_str() {
-        "rust" => rust_read(16, 4000, 4000, 255, bytes.as_ptr(), bytes.len()),
-        _ => unsafe { rattle_read(16, 4000, 4000, 255, bytes.as_ptr(), bytes.len()) },
-    };
+    let numbers: Vec<i32> = (0..RECORDS as i32).flat_map(|s| [s, 10, 20, 30]).collect();
+    let call: unsafe extern "C" fn(usize, u32, u32, u32, *const i32, usize, *const u8, usize) -> u64 = if args[1] == "rust" { rust_read } else { rattle_read };
+    let answer = unsafe { call(16, 4000, 4000, 255, numbers.as_ptr(), numbers.len(), bytes.as_ptr(), bytes.len()) };
     println!("{} events, {answer}", bytes.len() / 8);
 }
