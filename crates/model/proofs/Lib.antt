@@ -19,6 +19,8 @@ pub mod Bytes
 pub mod Layouts
 pub mod Calls
 pub mod Answers
+pub mod Shows
+pub mod Link
 pub mod FirstBytes
 pub mod Pod
 pub mod Instances

@@ -1,0 +1,85 @@
+-- What a reader counts of a frame: one table shown, or nothing where nothing is sent. Cited by Link. Assumes nothing.
+use mathlib.Core.Path.{_≡_, refl, sym, ap, ap₂, _∙_}
+use mathlib.Core.Bool.{true, false, cond}
+use mathlib.Core.List.{List, [], _∷_, _++_, map}
+use Prim.Native.Nat.{ℕ, zero, suc}
+use lib.Dec.{T, eqb, eqb·suc-zero}
+use lib.ListN.{length, getD, set}
+use Rattle.model.proofs.Bools.{is-true}
+use Rattle.model.proofs.Tables.{Alike, map-append}
+use Rattle.model.proofs.Counts.{plus-assoc, none-plus}
+use Rattle.model.proofs.Follow.{asks, heeds, heeds-body}
+use Rattle.model.specs.Numbers.{eqZ}
+use Rattle.model.specs.Table.{Slot, Table, idsDiffer}
+use Rattle.model.specs.Events.{Act, report}
+use Rattle.model.specs.Reader.{Reader, follow, onSlot, step, steps, nothing, oneShown, oneBad, plus, tally, tallies}
+use Rattle.model.specs.Sending.{Sent, sendSlot, sendNumber, sendReport, unless, changes, opened, allChanges, otherChanges, body, closed, sending, lastOpened}
+
+-- Counts of one run after another.
+pub tallies-append : (r : Reader) (xs ys : List Act) → tallies r (xs ++ ys) ≡ plus (tallies r xs) (tallies (steps r xs) ys)
+tallies-append r [] ys = sym (none-plus (tallies r ys))
+tallies-append r (x ∷ xs) ys = ap (plus (tally (r .mode) r x)) (tallies-append (step r x) xs ys) ∙ sym (plus-assoc (tally (r .mode) r x) (tallies (step r x) xs) (tallies (steps (step r x) xs) ys))
+
+-- ---- slots and numbers are not counted
+
+-- No report among what is sent.
+abbrev Quiet : List Sent → Type 0
+Quiet [] = Unit {0}
+Quiet (sendSlot k ∷ xs) = Quiet xs
+Quiet (sendNumber i v ∷ xs) = Quiet xs
+Quiet (sendReport ∷ xs) = ⊥
+
+quiet-append : (xs ys : List Sent) → Quiet xs → Quiet ys → Quiet (xs ++ ys)
+quiet-append [] ys a b = b
+quiet-append (sendSlot k ∷ xs) ys a b = quiet-append xs ys a b
+quiet-append (sendNumber i v ∷ xs) ys a b = quiet-append xs ys a b
+quiet-append (sendReport ∷ xs) ys a b = a
+
+quiet-changes : (i : ℕ) (old new : Slot) → Quiet (changes i old new)
+quiet-changes i [] new = tt
+quiet-changes i (o ∷ old) [] = tt
+quiet-changes i (o ∷ old) (v ∷ new) =
+    elim (eqZ o v) as (λ b. Quiet (unless b (sendNumber i v) (changes (suc i) old new))) [
+      | true ↦ quiet-changes (suc i) old new
+      | false ↦ quiet-changes (suc i) old new
+    ]
+
+quiet-opened : (k : ℕ) (xs : List Sent) → Quiet xs → Quiet (opened k xs)
+quiet-opened k [] q = q
+quiet-opened k (x ∷ xs) q = q
+
+quiet-all : (k : ℕ) (old new : Table) → Quiet (allChanges k old new)
+quiet-all k [] new = tt
+quiet-all k (o ∷ old) [] = tt
+quiet-all k (o ∷ old) (v ∷ new) = quiet-append (opened k (changes 0 o v)) (allChanges (suc k) old new) (quiet-opened k (changes 0 o v) (quiet-changes 0 o v)) (quiet-all (suc k) old new)
+
+quiet-others : (c k : ℕ) (old new : Table) → Quiet (otherChanges c k old new)
+quiet-others c k [] new = tt
+quiet-others c k (o ∷ old) [] = tt
+quiet-others zero k (o ∷ old) (v ∷ new) = quiet-all (suc k) old new
+quiet-others (suc c) k (o ∷ old) (v ∷ new) = quiet-append (opened k (changes 0 o v)) (otherChanges c (suc k) old new) (quiet-opened k (changes 0 o v) (quiet-changes 0 o v)) (quiet-others c (suc k) old new)
+
+quiet-body : (c : ℕ) (old new : Table) → Quiet (body c old new)
+quiet-body c old new = quiet-append (changes 0 (getD old c []) (getD new c [])) (otherChanges c 0 old new) (quiet-changes 0 (getD old c []) (getD new c [])) (quiet-others c 0 old new)
+
+quiet-tallies : (s p : Table) (c : ℕ) (xs : List Sent) → Quiet xs → tallies (follow s p c) (map asks xs) ≡ nothing
+quiet-tallies s p c [] q = refl
+quiet-tallies s p c (sendSlot k ∷ xs) q = none-plus _ ∙ quiet-tallies s p k xs q
+quiet-tallies s p c (sendNumber i v ∷ xs) q = none-plus _ ∙ quiet-tallies s (onSlot p c (λ z. set z i v)) c xs q
+quiet-tallies s p c (sendReport ∷ xs) q = absurd q
+
+-- ---- a frame
+
+closed-tallies : (old new : Table) (c : ℕ) (xs : List Sent) → T (idsDiffer new) → Quiet xs → heeds (follow old old c) xs ≡ follow old new (lastOpened c xs)
+    → tallies (follow old old c) (map asks (closed xs)) ≡ cond (eqb (length (closed xs)) 0) nothing oneShown
+closed-tallies old new c [] u q e = refl
+closed-tallies old new c (x ∷ xs) u q e =
+    ap (tallies (follow old old c)) (map-append asks (x ∷ xs) (sendReport ∷ []))
+    ∙ tallies-append (follow old old c) (map asks (x ∷ xs)) (report ∷ [])
+    ∙ ap₂ plus (quiet-tallies old old c (x ∷ xs) q) (ap (λ r. tallies r (report ∷ [])) e ∙ ap (λ b. plus (cond b oneShown oneBad) nothing) (is-true (idsDiffer new) u))
+    ∙ rw (eqb·suc-zero (length (xs ++ sendReport ∷ [])))
+
+-- A following reader that reads a frame counts one table shown, or nothing if nothing was sent.
+pub sending-tallies : (old new : Table) (c : ℕ) → Alike old new → T (idsDiffer new)
+    → tallies (follow old old c) (map asks (sending c old new)) ≡ cond (eqb (length (sending c old new)) 0) nothing oneShown
+sending-tallies old new c h u = closed-tallies old new c (body c old new) u (quiet-body c old new) (heeds-body old new c h)
