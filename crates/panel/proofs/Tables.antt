@@ -74,3 +74,7 @@ module _ (t : List S.Slot) (i : ℕ) where
 
   pub unheld-over : (v : ℤ) → length t ≤ i → unheld v (drop i (ids (tableOf t))) ≡ true
   unheld-over v h = unheld-end (ids (tableOf t)) i (pos 0) v (simp length-map h)
+
+-- The length of an array of structs that is a field: what is known is the length of a mapped list. Cited as `search (needs, unmapped)`.
+pub unmapped : (X Y : Type 0) (f : X → Y) (l : List X) (n : ℕ) → length (map f l) ≡ n → length l ≡ n
+unmapped X Y f l n e = sym (length-map l f) ∙ e
