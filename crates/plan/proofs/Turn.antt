@@ -11,18 +11,20 @@ use lib.Seq.{drop-cons, take-suc-set, drop-set-lt}
 use lib.Signed.{leZ}
 use Rattle.model.specs.Numbers.{eqZ, betweenZ}
 use Rattle.model.specs.Table.{Table, numbersOf, goodSlot, live}
+use Rattle.model.specs.Records.{bitsOf}
 use Rattle.model.specs.Frame.{numbersFrom, rowsFrom, kindOf, goodRow, goodRows, Fate, none, goesOn, begins, fate, freeId, slotAfter, takenAfter, counterAfter, tableFrom, counterFrom}
 use Rattle.model.proofs.Tries.{Same, table-same, counter-same}
 use Rattle.panel.specs.declared.Slot as S
 use Rattle.panel.specs.declared.Setup.{Setup}
-use Rattle.panel.specs.Seen.{natural, slotOf, tableOf, axesOf, blank}
+use Rattle.panel.specs.Seen.{slotOf, tableOf, axesOf, blank}
 use Rattle.plan.specs.Row.{begun, held, stayed, unsigned, plainRow, plainRows}
 
 -- ---- a row's numbers
 
-as-natural : (v : ℤ) (b : Bool) → (leZ (pos 0) v && b) ≡ true → pos (natural v) ≡ v
-as-natural (pos n) b e = refl
-as-natural (negsuc n) b e = let z : _≡_ {A = ℕ} 0 1 = cc in absurd (omega arith)
+own-bits : (v : ℤ) (b : Bool) → (leZ (pos 0) v && b) ≡ true → pos (bitsOf v) ≡ v
+unfolding bitsOf
+own-bits (pos n) b e = refl
+own-bits (negsuc n) b e = let z : _≡_ {A = ℕ} 0 1 = cc in absurd (omega arith)
 
 pub and-left : (a b : Bool) → (a && b) ≡ true → a ≡ true
 and-left true b e = refl
@@ -35,11 +37,11 @@ and-right false b e = let z : _≡_ {A = ℕ} 0 1 = cc in absurd (omega arith)
 abbrev three : ℤ → ℤ → ℤ → List ℤ
 three x y p = x ∷ y ∷ p ∷ []
 
-same-three : (x y p : ℤ) → unsigned (three x y p) ≡ true → three (pos (natural x)) (pos (natural y)) (pos (natural p)) ≡ three x y p
+same-three : (x y p : ℤ) → unsigned (three x y p) ≡ true → three (pos (bitsOf x)) (pos (bitsOf y)) (pos (bitsOf p)) ≡ three x y p
 same-three x y p e =
     let f = and-right (leZ (pos 0) x) _ e in
     let g = and-right (leZ (pos 0) y) _ f in
-    rw (as-natural x _ e, as-natural y _ f, as-natural p _ g)
+    rw (own-bits x _ e, own-bits y _ f, own-bits p _ g)
 
 -- Numbers that are good for a setup are not negative.
 good-unsigned : (u : Setup) (x y p : ℤ) → goodSlot (axesOf u) (three x y p) ≡ true → unsigned (three x y p) ≡ true

@@ -5,9 +5,9 @@ use lib.IntN.{ℤ, pos}
 use lib.Signed.{leZ}
 use Rattle.model.specs.Numbers.{eqZ, minusOne}
 use Rattle.model.specs.Table.{numbersOf}
+use Rattle.model.specs.Records.{bitsOf}
 use Rattle.model.specs.Frame.{kindOf, Fate, none, goesOn, begins}
 use Rattle.panel.specs.declared.Slot.{Slot}
-use Rattle.panel.specs.Seen.{natural}
 
 -- A contact begins.
 abbrev pub begun : Fate → Bool
@@ -15,9 +15,9 @@ begun none = false
 begun goesOn = false
 begun begins = true
 
--- A slot with an id and the numbers of its row. A negative number counts as 0: no good row has one.
+-- A slot with an id and the bits of its row's numbers: no good row has a negative one.
 abbrev pub held : ℤ → ℤ → ℤ → ℤ → Slot
-held i x y p = record { id = record { 0 = i }; x = natural x; y = natural y; pressure = natural p }
+held i x y p = record { id = record { 0 = i }; x = bitsOf x; y = bitsOf y; pressure = bitsOf p }
 
 -- A slot without a contact: its other numbers stay.
 abbrev pub lifted : Slot → Slot

@@ -90,13 +90,13 @@ fn begins(kind: i32, id: i32) -> bool
     panel::same(id, -1)
 }
 
-// A slot that has a contact: its id and the frame's numbers.
+// A slot that has a contact: its id and the frame's numbers, which are not negative, so that their bits are they themselves.
 fn contact(id: i32, x: i32, y: i32, pressure: i32) -> Slot
     ensures { λ r. ⌜ r ≡ held id x y pressure ⌝ }
 {
-    let a = panel::nat_of(x);
-    let b = panel::nat_of(y);
-    let c = panel::nat_of(pressure);
+    let a = records::bits_of(x);
+    let b = records::bits_of(y);
+    let c = records::bits_of(pressure);
     Slot {
         id: TrackingId(id),
         x: a,

@@ -29,28 +29,28 @@ returns c = rw (← kind-0 (c .before), c .if1 .taken)
 same-requires-2 : tie.Need-same-requires-2
 same-requires-2 c κs = search needs
 
-numbers-ok-requires : tie.Need-numbers-ok-requires
-numbers-ok-requires c κs = search needs
+numbers-in-requires : tie.Need-numbers-in-requires
+numbers-in-requires c κs = search needs
 
 returns-2 : tie.Need-returns-2
 returns-2 c =
     let s = c .before .before .before .before .before in
     let a = s .args in
     rw (← kind-0 (c .before .before .before .before), c .before .before .before .if1 .left, ← kind-1 (c .before .before), c .before .if2 .taken)
-    (rw (toZ-ofZ w32 (a .x) (s .fits .x), toZ-ofZ w32 (a .y) (s .fits .y), toZ-ofZ w32 (a .pressure) (s .fits .pressure)) at (c .numbers-ok .ensures))
+    (rw (toZ-ofZ w32 (a .x) (s .fits .x), toZ-ofZ w32 (a .y) (s .fits .y), toZ-ofZ w32 (a .pressure) (s .fits .pressure)) at (c .numbers-in .ensures))
 
 same-requires-3 : tie.Need-same-requires-3
 same-requires-3 c κs = search needs
 
-numbers-ok-requires-2 : tie.Need-numbers-ok-requires-2
-numbers-ok-requires-2 c κs = search needs
+numbers-in-requires-2 : tie.Need-numbers-in-requires-2
+numbers-in-requires-2 c κs = search needs
 
 returns-3 : tie.Need-returns-3
 returns-3 c =
     let s = c .before .before .before .before .before .before .before in
     let a = s .args in
     rw (← kind-0 (c .before .before .before .before .before .before), c .before .before .before .before .before .if1 .left, ← kind-1 (c .before .before .before .before), c .before .before .before .if2 .left, ← kind-2 (c .before .before), c .before .if3 .taken)
-    (rw (toZ-ofZ w32 (a .x) (s .fits .x), toZ-ofZ w32 (a .y) (s .fits .y), toZ-ofZ w32 (a .pressure) (s .fits .pressure)) at (c .numbers-ok2 .ensures))
+    (rw (toZ-ofZ w32 (a .x) (s .fits .x), toZ-ofZ w32 (a .y) (s .fits .y), toZ-ofZ w32 (a .pressure) (s .fits .pressure)) at (c .numbers-in2 .ensures))
 
 returns-4 : tie.Need-returns-4
 returns-4 c =
@@ -63,9 +63,9 @@ row-ok-spec =
     same-requires
     returns
     same-requires-2
-    numbers-ok-requires
+    numbers-in-requires
     returns-2
     same-requires-3
-    numbers-ok-requires-2
+    numbers-in-requires-2
     returns-3
     returns-4)

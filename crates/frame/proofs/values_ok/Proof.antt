@@ -14,6 +14,7 @@ use mir.ValLaws.{toZ-ofZ}
 use Rattle.model.specs.Frame.{goodRow, goodRows, rowsFrom}
 use Rattle.model.proofs.Rows.{rows-next, rows-none, row-of-four}
 use Rattle.panel.specs.Seen.{axesOf}
+use Rattle.frame.proofs.Ranges.{small}
 use Rattle.frame.proofs.values_ok.Statement.{statement}
 use Rattle.frame.proofs.values_ok.Tie as tie
 
@@ -87,7 +88,7 @@ shared-slice-copy-out-row-ok-4 : tie.Need-shared-slice-copy-out-row-ok-4 Inv-loo
 shared-slice-copy-out-row-ok-4 c = search needs
 
 row-ok-requires : tie.Need-row-ok-requires Inv-loop μ-loop
-row-ok-requires c κs = search needs
+row-ok-requires c κs = small (c .before .before .before .before .before .before .args .setup) (c .before .before .before .before .before .before .pre .0)
 
 returns : tie.Need-returns Inv-loop μ-loop
 returns c = sym (rw (not-true (c .before .row-ok .result) (c .if1 .taken)) at (step (c .before)))
