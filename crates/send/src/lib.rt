@@ -5,10 +5,9 @@ ghost use Prim.Native.Nat.{_+_, _<_, _≤_};
 ghost use lib.ListN.{length};
 ghost use Rattle.model.specs.Records.{lay};
 ghost use Rattle.model.specs.Sending.{sendSlot, sendReport, changes, lastOpened};
-ghost use Rattle.model.specs.Order.{ofMask};
 ghost use Rattle.panel.specs.Seen.{slotOf};
 ghost use Rattle.records.specs.Seen.{over};
-ghost use Rattle.send.specs.Sent.{bytesSent, numberBytes, openedAt, sentBy};
+ghost use Rattle.send.specs.Sent.{bytesSent, numberBytes, sentBy};
 use panel::RECORDS;
 use panel::Slot;
 use panel::SlotNumber;
@@ -75,54 +74,34 @@ fn put_opened(b: &mut [u8], s: u32, old: Slot, new: Slot) -> usize
     8 + n
 }
 
-struct Sent {
-    at: usize,
-    last: usize,
-}
-
-// The slots that `mask` names, in rising order: trailing zeros find the next one.
-fn put_others(
-    b: &mut [u8],
-    old: [Slot; RECORDS],
-    new: [Slot; RECORDS],
-    mask: u16,
-    from: usize,
-    current: usize,
-) -> Sent
-    requires { ⌜ from + length (bytesSent (ofMask 16 mask (openedAt old new))) ≤ length (now b) ⌝ }
-    ensures { λ r. ⌜ (r .at ≡ from + length (bytesSent (ofMask 16 mask (openedAt old new)))) × (r .last ≡ lastOpened current (ofMask 16 mask (openedAt old new))) × (now (b .exit) ≡ lay from (bytesSent (ofMask 16 mask (openedAt old new))) (now (b .entry))) ⌝ }
-{
-    let mut at = from;
-    let mut m = mask;
-    let mut last = current;
-    while m != 0 {
-        let z = u16::trailing_zeros(m);
-        let s = (z % 16) as usize;
-        m = m & (m - 1);
-        last = s;
-        let k = put_opened(&mut b[at..], z, old[s], new[s]);
-        at = at + k;
-    }
-    Sent { at, last }
-}
-
-// A frame's events at the start of b: the current slot's without its number, those of the other slots, and the report. The slot last written.
+// A frame's events from a position on: the current slot's without its number, those of the slots that `others` names, and the report. The slot last written.
+// Trailing zeros find the next slot, so that quiet slots cost nothing.
 pub fn send_frame(
     b: &mut [u8],
+    at: usize,
     old: [Slot; RECORDS],
     new: [Slot; RECORDS],
     others: u16,
     current: SlotNumber,
 ) -> SlotNumber
-    requires { ⌜ (current .0 < 16) × (length (bytesSent (sentBy old new others (current .0) ++ sendReport ∷ [])) ≤ length (now b)) ⌝ }
-    ensures { λ r. ⌜ (r .0 ≡ lastOpened (current .0) (sentBy old new others (current .0))) × (now (b .exit) ≡ over (bytesSent (sentBy old new others (current .0) ++ sendReport ∷ [])) (now (b .entry))) ⌝ }
+    requires { ⌜ (current .0 < 16) × (at + length (bytesSent (sentBy old new others (current .0) ++ sendReport ∷ [])) ≤ length (now b)) ⌝ }
+    ensures { λ r. ⌜ (r .0 ≡ lastOpened (current .0) (sentBy old new others (current .0))) × (now (b .exit) ≡ lay at (bytesSent (sentBy old new others (current .0) ++ sendReport ∷ [])) (now (b .entry))) ⌝ }
 {
     let c = current.0;
     let o = old[c];
     let v = new[c];
-    let at = put_changes(b, o, v);
-    let e = put_others(b, old, new, others, at, c);
-    let end = e.at;
+    let first = put_changes(&mut b[at..], o, v);
+    let mut end = at + first;
+    let mut m = others;
+    let mut last = c;
+    while m != 0 {
+        let z = u16::trailing_zeros(m);
+        let s = (z % 16) as usize;
+        m = m & (m - 1);
+        last = s;
+        let k = put_opened(&mut b[end..], z, old[s], new[s]);
+        end = end + k;
+    }
     records::put(&mut b[end..], records::SYN, records::REPORT, 0);
-    SlotNumber(e.last)
+    SlotNumber(last)
 }
