@@ -9,6 +9,7 @@ use borrow.Author.Tests.{eq-eqb}
 use Rattle.model.specs.Panel.{base, setupGood}
 use Rattle.model.specs.Table.{idsDiffer, goodRecords}
 use Rattle.model.specs.States.{writerGood}
+use Rattle.model.proofs.Bools.{is-true}
 use Rattle.model.proofs.FreshSteady.{setup-slots}
 use Rattle.model.proofs.Calls.{WriterFacts, writer-state}
 use Rattle.panel.specs.declared.Setup.{Setup}
@@ -38,6 +39,9 @@ setup-size u e = setup-slots base (setupOf u) (holds e) .1
 module _ (s : WriterState) (g : writerGood base (seen s) ≡ true) where
   facts : WriterFacts base (seen s)
   facts = writer-state base (seen s) (holds g)
+
+  pub good-setup : setupGood base (setupOf (s .setup)) ≡ true
+  good-setup = is-true (setupGood base (setupOf (s .setup))) (facts .setup)
 
   pub good-size : s .setup .n ≤ 16
   good-size = setup-slots base (setupOf (s .setup)) (facts .setup) .1
