@@ -4,3 +4,4 @@ pub mod States
 pub mod Outcome
 pub mod Events
 pub mod Accepted
+pub mod Demands
