@@ -11,10 +11,13 @@ pub mod Counts
 pub mod Lost
 pub mod Least
 pub mod Ids
+pub mod Tries
+pub mod Rows
 pub mod ReaderSteady
 pub mod WriterSteady
 pub mod FreshSteady
 pub mod Ones
+pub mod Order
 pub mod Bytes
 pub mod Layouts
 pub mod Calls

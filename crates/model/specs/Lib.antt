@@ -6,6 +6,7 @@ pub mod Events
 pub mod Records
 pub mod Frame
 pub mod Sending
+pub mod Order
 pub mod Reader
 pub mod States
 pub mod Calls

@@ -1,11 +1,21 @@
--- What is seen of a value and held again is the value, whatever it is: so a refusal hands a state back unchanged. Cited by the reader and the writer. Assumes nothing.
-use mathlib.Core.Path.{_≡_, refl, ap}
+-- What is seen of a value and held again is the value, whatever it is: so a refusal hands a state back unchanged. And what is held of good records is seen again. Cited by the reader and the writer. Assumes nothing.
+use mathlib.Core.Path.{_≡_, refl, sym, ap, ap₂, _∙_}
+use mathlib.Core.Bool.{Bool}
 use mathlib.Core.List.{List, [], _∷_}
+use Prim.Native.Nat.{ℕ, zero, suc}
+use lib.Dec.{T}
+use lib.IntN.{ℤ, pos, negsuc}
+use Rattle.model.specs.Numbers.{betweenZ}
+use Rattle.model.specs.Panel.{idField}
+use Rattle.model.specs.Table as M
+use Rattle.model.specs.Table.{fits, goodSlot, unusedSlot, eqSlot, goodPlace, goodRecords}
+use Rattle.model.proofs.Bools.{both-left, both-right}
+use Rattle.model.proofs.Tables.{eqSlot→eq}
 use Rattle.panel.specs.declared.Slot.{Slot}
 use Rattle.panel.specs.declared.Setup.{Setup}
 use Rattle.panel.specs.declared.Verdict.{Verdict}
 use Rattle.panel.specs.declared.Verdict.the-variants as W
-use Rattle.panel.specs.Seen.{tableOf, tableFrom, setupOf, setupFrom, verdictOf, verdictFrom}
+use Rattle.panel.specs.Seen.{natural, slotOf, tableOf, slotFrom, tableFrom, setupOf, setupFrom, fieldsOf, verdictOf, verdictFrom}
 
 pub table-back : (t : List Slot) → tableFrom (tableOf t) ≡ t
 table-back [] = refl
@@ -24,3 +34,37 @@ verdict-back W.NoRoom = refl
 verdict-back W.Ragged = refl
 verdict-back W.NotStale = refl
 verdict-back W.Image = refl
+
+-- ---- held and seen again
+
+own-number : (top : ℕ) (v : ℤ) → T (betweenZ (pos 0) (pos top) v) → pos (natural v) ≡ v
+own-number top (pos n) t = refl
+own-number top (negsuc n) t = absurd t
+
+slot-seen : (u : Setup) (s : M.Slot) → T (goodSlot (fieldsOf u) s) → slotOf (slotFrom s) ≡ s
+slot-seen u [] g = absurd g
+slot-seen u (i ∷ []) g = absurd (both-right (fits idField i) _ g)
+slot-seen u (i ∷ x ∷ []) g = absurd (both-right (betweenZ (pos 0) (pos (u .x)) x) _ (both-right (fits idField i) _ g))
+slot-seen u (i ∷ x ∷ y ∷ []) g = absurd (both-right (betweenZ (pos 0) (pos (u .y)) y) _ (both-right (betweenZ (pos 0) (pos (u .x)) x) _ (both-right (fits idField i) _ g)))
+slot-seen u (i ∷ x ∷ y ∷ p ∷ []) g =
+    let gx = both-right (fits idField i) _ g in
+    let gy = both-right (betweenZ (pos 0) (pos (u .x)) x) _ gx in
+    let gp = both-right (betweenZ (pos 0) (pos (u .y)) y) _ gy in
+    let ex = own-number (u .x) x (both-left (betweenZ (pos 0) (pos (u .x)) x) _ gx) in
+    let ey = own-number (u .y) y (both-left (betweenZ (pos 0) (pos (u .y)) y) _ gy) in
+    let ep = own-number (u .pressure) p (both-left (betweenZ (pos 0) (pos (u .pressure)) p) _ gp) in
+    rw (ex, ey, ep)
+slot-seen u (i ∷ x ∷ y ∷ p ∷ q ∷ s) g =
+    absurd (both-right (betweenZ (pos 0) (pos (u .pressure)) p) _ (both-right (betweenZ (pos 0) (pos (u .y)) y) _ (both-right (betweenZ (pos 0) (pos (u .x)) x) _ (both-right (fits idField i) _ g))))
+
+unused-seen : (u : Setup) (s : M.Slot) → T (eqSlot s (unusedSlot (fieldsOf u))) → slotOf (slotFrom s) ≡ s
+unused-seen u s g = ap (λ z. slotOf (slotFrom z)) (eqSlot→eq s (unusedSlot (fieldsOf u)) g) ∙ sym (eqSlot→eq s (unusedSlot (fieldsOf u)) g)
+
+-- Good records of a setup are seen as they are, once they are held.
+pub table-seen : (u : Setup) (n : ℕ) (t : M.Table) → T (goodRecords (fieldsOf u) n t) → tableOf (tableFrom t) ≡ t
+table-seen u zero [] g = refl
+table-seen u (suc n) [] g = absurd g
+table-seen u zero (s ∷ t) g =
+    ap₂ {C = M.Table} (λ x y. x ∷ y) (unused-seen u s (both-left (goodPlace (fieldsOf u) zero s) _ g)) (table-seen u zero t (both-right (goodPlace (fieldsOf u) zero s) _ g))
+table-seen u (suc n) (s ∷ t) g =
+    ap₂ {C = M.Table} (λ x y. x ∷ y) (slot-seen u s (both-left (goodSlot (fieldsOf u) s) _ g)) (table-seen u n t (both-right (goodSlot (fieldsOf u) s) _ g))

@@ -1,0 +1,2 @@
+-- The laws behind the judging of a frame.
+pub mod Ranges

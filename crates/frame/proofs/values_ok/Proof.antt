@@ -1,0 +1,136 @@
+-- `frame::values_ok` tells whether a frame's rows are good. The loop has passed s good rows. Assumes nothing.
+use borrow.Author.Needs.{needs}
+use borrow.Author.Tests.{not-true, not-false}
+use mathlib.Core.Path.{_≡_, refl, sym, ap, _∙_}
+use mathlib.Core.Bool.{_&&_}
+use mathlib.Core.List.{_∷_, []}
+use Prim.Native.Nat.{_≤_, _<_, _+_, _-_, _*_}
+use native.Mathlib.Omega.{arith}
+use lib.IntN.{pos}
+use lib.ListN.{getD}
+use mir.Syntax.{w32}
+use mir.Val.{SFits}
+use mir.ValLaws.{toZ-ofZ}
+use Rattle.model.specs.Frame.{goodRow, goodRows, rowsFrom}
+use Rattle.model.proofs.Rows.{rows-next, rows-none, row-of-four}
+use Rattle.panel.specs.Seen.{axesOf}
+use Rattle.frame.proofs.Ranges.{small}
+use Rattle.frame.proofs.values_ok.Statement.{statement}
+use Rattle.frame.proofs.values_ok.Tie as tie
+
+abbrev Inv-loop : tie.InvT-loop
+Inv-loop setup frame n s₀ s = (s ≤ setup .n) × (goodRows (axesOf setup) (rowsFrom 4 (setup .n) frame 0) ≡ goodRows (axesOf setup) (rowsFrom 4 (setup .n - s) frame (4 * s)))
+
+abbrev μ-loop : tie.MeasureT-loop
+μ-loop setup frame n s₀ s = setup .n - s
+
+-- what a turn's test says of all rows
+step : (c : tie.After-row-ok Inv-loop μ-loop)
+    → (let a = c .before .before .before .before .before .before .before .args in let s = c .before .before .before .before .before .before .loop .s in
+    goodRows (axesOf (a .setup)) (rowsFrom 4 (a .setup .n) (a .frame .now) 0) ≡ (c .row-ok .result && goodRows (axesOf (a .setup)) (rowsFrom 4 (a .setup .n - (s + 1)) (a .frame .now) (4 * (s + 1)))))
+step c =
+    let a = c .before .before .before .before .before .before .before .args in
+    let l = c .before .before .before .before .before .before .loop in
+    let f = a .frame .now in
+    let axes = axesOf (a .setup) in
+    let rest = rowsFrom 4 (a .setup .n - (l .s + 1)) f (4 * (l .s + 1)) in
+    let k0 = getD f (4 * l .s) (pos 0) in
+    let k1 = getD f (4 * l .s + 1) (pos 0) in
+    let k2 = getD f (4 * l .s + 2) (pos 0) in
+    let k3 = getD f (4 * l .s + 3) (pos 0) in
+    let f0 : SFits w32 k0 = search needs in
+    let f1 : SFits w32 k1 = search needs in
+    let f2 : SFits w32 k2 = search needs in
+    let f3 : SFits w32 k3 = search needs in
+    let e : c .row-ok .result ≡ goodRow axes (k0 ∷ k1 ∷ k2 ∷ k3 ∷ []) = rw (toZ-ofZ w32 k0 f0, toZ-ofZ w32 k1 f1, toZ-ofZ w32 k2 f2, toZ-ofZ w32 k3 f3) at (c .row-ok .ensures) in
+    l .inv .1 ∙ ap (goodRows axes) (rows-next 4 (a .setup .n) (l .s) f (search needs))
+    ∙ ap (λ g. goodRow axes g && goodRows axes rest) (row-of-four f (4 * l .s)) ∙ ap (λ b. b && goodRows axes rest) (sym e)
+
+loop-holds : tie.Need-loop-holds Inv-loop μ-loop
+loop-holds c =
+    let z : c .args .setup .n - 0 ≡ c .args .setup .n = omega arith in
+    (search needs, rw z)
+
+mul-i : tie.Need-mul-i Inv-loop μ-loop
+mul-i c = search needs
+
+mul-row-ok : tie.Need-mul-row-ok Inv-loop μ-loop
+mul-row-ok c = search needs
+
+shared-slice-copy-out-row-ok : tie.Need-shared-slice-copy-out-row-ok Inv-loop μ-loop
+shared-slice-copy-out-row-ok c = search needs
+
+add-row-ok : tie.Need-add-row-ok Inv-loop μ-loop
+add-row-ok c = search needs
+
+mul-row-ok-2 : tie.Need-mul-row-ok-2 Inv-loop μ-loop
+mul-row-ok-2 c = search needs
+
+shared-slice-copy-out-row-ok-2 : tie.Need-shared-slice-copy-out-row-ok-2 Inv-loop μ-loop
+shared-slice-copy-out-row-ok-2 c = search needs
+
+add-row-ok-2 : tie.Need-add-row-ok-2 Inv-loop μ-loop
+add-row-ok-2 c = search needs
+
+mul-row-ok-3 : tie.Need-mul-row-ok-3 Inv-loop μ-loop
+mul-row-ok-3 c = search needs
+
+shared-slice-copy-out-row-ok-3 : tie.Need-shared-slice-copy-out-row-ok-3 Inv-loop μ-loop
+shared-slice-copy-out-row-ok-3 c = search needs
+
+add-row-ok-3 : tie.Need-add-row-ok-3 Inv-loop μ-loop
+add-row-ok-3 c = search needs
+
+mul-row-ok-4 : tie.Need-mul-row-ok-4 Inv-loop μ-loop
+mul-row-ok-4 c = search needs
+
+shared-slice-copy-out-row-ok-4 : tie.Need-shared-slice-copy-out-row-ok-4 Inv-loop μ-loop
+shared-slice-copy-out-row-ok-4 c = search needs
+
+row-ok-requires : tie.Need-row-ok-requires Inv-loop μ-loop
+row-ok-requires c κs = small (c .before .before .before .before .before .before .args .setup) (c .before .before .before .before .before .before .pre .0)
+
+returns : tie.Need-returns Inv-loop μ-loop
+returns c = sym (rw (not-true (c .before .row-ok .result) (c .if1 .taken)) at (step (c .before)))
+
+add-s : tie.Need-add-s Inv-loop μ-loop
+add-s c = search needs
+
+loop-less : tie.Need-loop-less Inv-loop μ-loop
+loop-less c = search needs
+
+loop-again : tie.Need-loop-again Inv-loop μ-loop
+loop-again c = (search needs, rw (not-false (c .before .row-ok .result) (c .if1 .left)) at (step (c .before)))
+
+returns-2 : tie.Need-returns-2 Inv-loop μ-loop
+returns-2 c =
+    let a = c .before .before .args in
+    let l = c .before .loop in
+    let z : a .setup .n - l .s ≡ 0 = omega arith in
+    sym (l .inv .1 ∙ ap (λ m. goodRows (axesOf (a .setup)) (rowsFrom 4 m (a .frame .now) (4 * l .s))) z ∙ ap (goodRows (axesOf (a .setup))) (rows-none 4 (a .frame .now) (4 * l .s)))
+
+pub values-ok-spec : {M : Type 1} → statement M
+values-ok-spec =
+    tie.close
+    (tie.spec
+    Inv-loop
+    μ-loop
+    loop-holds
+    mul-i
+    mul-row-ok
+    shared-slice-copy-out-row-ok
+    add-row-ok
+    mul-row-ok-2
+    shared-slice-copy-out-row-ok-2
+    add-row-ok-2
+    mul-row-ok-3
+    shared-slice-copy-out-row-ok-3
+    add-row-ok-3
+    mul-row-ok-4
+    shared-slice-copy-out-row-ok-4
+    row-ok-requires
+    returns
+    add-s
+    loop-less
+    loop-again
+    returns-2)

@@ -1,0 +1,1 @@
+-- The frame's own definitions: none, its contracts cite the model's.

@@ -1,0 +1,68 @@
+// A frame's values: whether every kind is known and the numbers of a contact are in their ranges. The writer stands on it.
+ghost use mathlib.Core.Path.{_≡_};
+ghost use mathlib.Core.Bool.{true};
+ghost use mathlib.Core.List.{_∷_, []};
+ghost use Prim.Native.Nat.{_*_, _<_};
+ghost use lib.IntN.{pos};
+ghost use lib.ListN.{length};
+ghost use Rattle.model.specs.Numbers.{betweenZ};
+ghost use Rattle.model.specs.Panel.{base, setupGood};
+ghost use Rattle.model.specs.Table.{goodSlot};
+ghost use Rattle.model.specs.Frame.{goodRow, valuesGood};
+ghost use Rattle.panel.specs.Seen.{setupOf, axesOf, panelSeen};
+use panel::Setup;
+
+// Whether v is 0 to top. The bits of a negative number are above every top, so one comparison does, where `panel::within` needs two.
+fn in_range(v: i32, top: u32) -> bool
+    requires { ⌜ top < 2147483648 ⌝ }
+    ensures { λ r. ⌜ r ≡ betweenZ (pos 0) (pos top) v ⌝ }
+{
+    records::bits_of(v) <= top
+}
+
+fn numbers_in(setup: Setup, x: i32, y: i32, pressure: i32) -> bool
+    requires { ⌜ (setup .x < 2147483648) × (setup .y < 2147483648) × (setup .pressure < 2147483648) ⌝ }
+    ensures { λ r. ⌜ r ≡ goodSlot (axesOf setup) (x ∷ y ∷ pressure ∷ []) ⌝ }
+{
+    if !in_range(x, setup.x) {
+        return false;
+    }
+    if !in_range(y, setup.y) {
+        return false;
+    }
+    in_range(pressure, setup.pressure)
+}
+
+// One slot's row. The other numbers count only where there is a contact.
+fn row_ok(setup: Setup, kind: i32, x: i32, y: i32, pressure: i32) -> bool
+    requires { ⌜ (setup .x < 2147483648) × (setup .y < 2147483648) × (setup .pressure < 2147483648) ⌝ }
+    ensures { λ r. ⌜ r ≡ goodRow (axesOf setup) (kind ∷ x ∷ y ∷ pressure ∷ []) ⌝ }
+{
+    if panel::same(kind, 0) {
+        return true;
+    }
+    if panel::same(kind, 1) {
+        return numbers_in(setup, x, y, pressure);
+    }
+    if panel::same(kind, 2) {
+        return numbers_in(setup, x, y, pressure);
+    }
+    false
+}
+
+// Whether all rows of a frame are good.
+pub fn values_ok(setup: Setup, frame: &[i32]) -> bool
+    requires { ⌜ (setupGood base (setupOf setup) ≡ true) × (length (now frame) ≡ 4 * setup .n) ⌝ }
+    ensures { λ r. ⌜ r ≡ valuesGood (panelSeen setup) (now (frame .entry)) ⌝ }
+{
+    let n = setup.n;
+    let mut s: usize = 0;
+    while s < n {
+        let i = 4 * s;
+        if !row_ok(setup, frame[i], frame[i + 1], frame[i + 2], frame[i + 3]) {
+            return false;
+        }
+        s += 1;
+    }
+    true
+}

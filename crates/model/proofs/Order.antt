@@ -1,0 +1,184 @@
+-- The loop over the set bits of a number, by trailing zeros and `m & (m - 1)`, and what it sends, over any width. Cited by the writer's crates tally and send. Assumes nothing.
+use mathlib.Core.Path.{_≡_, refl, sym, ap, ap₂, _∙_}
+use mathlib.Core.Bool.{Bool, true, false, _&&_}
+use mathlib.Core.List.{List, [], _∷_, _++_}
+use Prim.Native.Nat.{ℕ, zero, suc, _+_, _-_, _*_, _/_, _%_, _^_, _≤_, _<_, min}
+use native.Mathlib.Omega.{arith}
+use native.Mathlib.Nat.{pow-suc, mul-assoc}
+use lib.Bits.{bitAnd, and-step, and-self}
+use lib.Count.{ones, ones-step, trailingZeros, under}
+use lib.ListN.{length, getD}
+use Rattle.model.proofs.Count.{oneUnless-le}
+use Rattle.model.proofs.Ones.{mask-ones}
+use Rattle.model.specs.Numbers.{eqZ}
+use Rattle.model.specs.Table.{Slot, Table}
+use Rattle.model.specs.Sending.{Sent, sendSlot, sendNumber, unless, changes, opened, allChanges, otherChanges, oneUnless, sameSlot, changedMask, changedSlots, changedOthers}
+use Rattle.model.specs.Order.{ifBit, ofMask, othersMask}
+
+-- ---- the lowest bit taken off
+
+down-odd : (m : ℕ) → m % 2 ≡ 1 → bitAnd m (m - 1) ≡ m / 2 * 2
+down-odd m e =
+    let h : (m - 1) / 2 ≡ m / 2 = omega arith in
+    let z : (m - 1) % 2 ≡ 0 = omega arith in
+    and-step m (m - 1) ∙ ap₂ (λ x y. bitAnd (m / 2) x * 2 + y) h (ap₂ min e z) ∙ ap (λ x. x * 2 + 0) (and-self (m / 2)) ∙ omega arith
+
+down-even : (m : ℕ) → 0 < m → m % 2 ≡ 0 → bitAnd m (m - 1) ≡ bitAnd (m / 2) (m / 2 - 1) * 2
+down-even m p e =
+    let h : (m - 1) / 2 ≡ m / 2 - 1 = omega arith in
+    let z : (m - 1) % 2 ≡ 1 = omega arith in
+    and-step m (m - 1) ∙ ap₂ (λ x y. bitAnd (m / 2) x * 2 + y) h (ap₂ min e z) ∙ plus-zero (bitAnd (m / 2) (m / 2 - 1) * 2)
+  where
+    plus-zero : (x : ℕ) → x + 0 ≡ x
+    plus-zero x = omega arith
+
+twice-mod : (x : ℕ) → x * 2 % 2 ≡ 0
+twice-mod x = omega arith
+
+twice-div : (x : ℕ) → x * 2 / 2 ≡ x
+twice-div x = omega arith
+
+module _ {A : Type 0} where
+  pub mask-none : (w : ℕ) (f : ℕ → List A) → ofMask w 0 f ≡ []
+  unfolding ofMask
+  mask-none zero f = refl
+  mask-none (suc w) f = mask-none w (λ j. f (suc j))
+
+  mask-open : (w m : ℕ) (f : ℕ → List A) → ofMask (suc w) m f ≡ ifBit (m % 2) (f 0) ++ ofMask w (m / 2) (λ j. f (suc j))
+  unfolding ofMask
+  mask-open w m f = refl
+
+  mask-twice : (w x : ℕ) (f : ℕ → List A) → ofMask (suc w) (x * 2) f ≡ ofMask w x (λ j. f (suc j))
+  unfolding ofMask
+  mask-twice w x f = ap₂ (λ d y. ifBit d (f 0) ++ ofMask w y (λ j. f (suc j))) (twice-mod x) (twice-div x)
+
+  -- The law of the loop: the list of the lowest set bit, and then those of the others.
+  pub mask-next : (w m : ℕ) (f : ℕ → List A) → 0 < m → m < 2 ^ w → ofMask w m f ≡ f (trailingZeros w m) ++ ofMask w (bitAnd m (m - 1)) f
+  unfolding trailingZeros
+  mask-next zero m f p h = absurd (omega arith)
+  mask-next (suc w) m f p h =
+      go (m % 2) refl (λ e. mask-next w (m / 2) (λ j. f (suc j)) (omega arith) (omega (arith, pow-suc 2 w)))
+    where
+      go : (r : ℕ) → m % 2 ≡ r
+          → (m % 2 ≡ 0 → ofMask w (m / 2) (λ j. f (suc j)) ≡ f (suc (trailingZeros w (m / 2))) ++ ofMask w (bitAnd (m / 2) (m / 2 - 1)) (λ j. f (suc j)))
+          → ofMask (suc w) m f ≡ f (under (m % 2) (trailingZeros w (m / 2))) ++ ofMask (suc w) (bitAnd m (m - 1)) f
+      go zero e ih =
+          mask-open w m f ∙ ap (λ d. ifBit d (f 0) ++ ofMask w (m / 2) (λ j. f (suc j))) e
+          ∙ ih e
+          ∙ ap₂ {C = List A} (λ d s. f (under d (trailingZeros w (m / 2))) ++ s) (sym e)
+          (sym (ap (λ x. ofMask (suc w) x f) (down-even m p e) ∙ mask-twice w (bitAnd (m / 2) (m / 2 - 1)) f))
+      go (suc zero) e ih =
+          mask-open w m f ∙ ap (λ d. ifBit d (f 0) ++ ofMask w (m / 2) (λ j. f (suc j))) e
+          ∙ ap₂ {C = List A} (λ d s. f (under d (trailingZeros w (m / 2))) ++ s) (sym e)
+          (sym (ap (λ x. ofMask (suc w) x f) (down-odd m e) ∙ mask-twice w (m / 2) f))
+      go (suc (suc r)) e ih = absurd (omega arith)
+
+-- A number that is not 0 has a set bit below its width.
+pub trailing-below : (w m : ℕ) → 0 < m → m < 2 ^ w → trailingZeros w m < w
+unfolding trailingZeros
+trailing-below zero m p h = absurd (omega arith)
+trailing-below (suc w) m p h = go (m % 2) refl (λ e. trailing-below w (m / 2) (omega arith) (omega (arith, pow-suc 2 w)))
+  where
+    go : (r : ℕ) → m % 2 ≡ r → (m % 2 ≡ 0 → trailingZeros w (m / 2) < w) → under (m % 2) (trailingZeros w (m / 2)) < suc w
+    go zero e ih = rw e (omega (arith, ih e))
+    go (suc r) e ih = rw e (omega arith)
+
+-- ---- the slots that the changed-slot number names
+
+no-changes : (i : ℕ) (o v : Slot) → sameSlot o v ≡ true → changes i o v ≡ []
+no-changes i [] v e = refl
+no-changes i (x ∷ o) [] e = refl
+no-changes i (x ∷ o) (y ∷ v) e =
+    (elim (eqZ x y) as (λ b. (b && sameSlot o v) ≡ true → unless b (sendNumber i y) (changes (suc i) o v) ≡ []) [
+      | true ↦ λ q. no-changes (suc i) o v q
+      | false ↦ λ q. let z : _≡_ {A = ℕ} 0 1 = cc in absurd (omega arith)
+    ]) e
+
+some-changes : (k i : ℕ) (o v : Slot) → sameSlot o v ≡ false → opened k (changes i o v) ≡ sendSlot k ∷ changes i o v
+some-changes k i [] v e = let z : _≡_ {A = ℕ} 0 1 = cc in absurd (omega arith)
+some-changes k i (x ∷ o) [] e = let z : _≡_ {A = ℕ} 0 1 = cc in absurd (omega arith)
+some-changes k i (x ∷ o) (y ∷ v) e =
+    (elim (eqZ x y) as (λ b. (b && sameSlot o v) ≡ false → opened k (unless b (sendNumber i y) (changes (suc i) o v)) ≡ sendSlot k ∷ unless b (sendNumber i y) (changes (suc i) o v)) [
+      | true ↦ λ q. some-changes k (suc i) o v q
+      | false ↦ λ q. refl
+    ]) e
+
+bit-opened : (k : ℕ) (o v : Slot) (l : List Sent) → l ≡ sendSlot k ∷ changes 0 o v → ifBit (oneUnless (sameSlot o v)) l ≡ opened k (changes 0 o v)
+bit-opened k o v l e =
+    (elim (sameSlot o v) as (λ b. sameSlot o v ≡ b → ifBit (oneUnless b) l ≡ opened k (changes 0 o v)) [
+      | true ↦ λ q. sym (ap (opened k) (no-changes 0 o v q))
+      | false ↦ λ q. e ∙ sym (some-changes k 0 o v q)
+    ]) refl
+
+-- f gives slot j's changes, opened by its number, for the slots from k on.
+abbrev pub Opens : ℕ → Table → Table → (ℕ → List Sent) → Type 0
+Opens k old new f = (j : ℕ) → j < length old → f j ≡ sendSlot (k + j) ∷ changes 0 (getD old j []) (getD new j [])
+
+opens-head : (k : ℕ) (o v : Slot) (old new : Table) (f : ℕ → List Sent) → Opens k (o ∷ old) (v ∷ new) f → f 0 ≡ sendSlot k ∷ changes 0 o v
+opens-head k o v old new f e = let z : k + 0 ≡ k = omega arith in e 0 (omega arith) ∙ ap {B = List Sent} (λ j. sendSlot j ∷ changes 0 o v) z
+
+opens-tail : (k : ℕ) (o v : Slot) (old new : Table) (f : ℕ → List Sent) → Opens k (o ∷ old) (v ∷ new) f → Opens (suc k) old new (λ j. f (suc j))
+opens-tail k o v old new f e j h =
+    let z : k + suc j ≡ suc k + j = omega arith in
+    e (suc j) (omega arith) ∙ ap {B = List Sent} (λ i. sendSlot i ∷ changes 0 (getD old j []) (getD new j [])) z
+
+low-bit : (b m : ℕ) → b ≤ 1 → (b + 2 * m) % 2 ≡ b
+low-bit b m h = omega arith
+
+high-bits : (b m : ℕ) → b ≤ 1 → (b + 2 * m) / 2 ≡ m
+high-bits b m h = omega arith
+
+mask-bit : (w b m : ℕ) (f : ℕ → List Sent) → b ≤ 1 → ofMask (suc w) (b + 2 * m) f ≡ ifBit b (f 0) ++ ofMask w m (λ j. f (suc j))
+unfolding ofMask
+mask-bit w b m f h = ap₂ (λ d y. ifBit d (f 0) ++ ofMask w y (λ j. f (suc j))) (low-bit b m h) (high-bits b m h)
+
+mask-all : (k : ℕ) (old new : Table) (f : ℕ → List Sent) → Opens k old new f → ofMask (length old) (changedMask old new) f ≡ allChanges k old new
+mask-all k [] new f e = mask-none 0 f
+mask-all k (o ∷ old) [] f e = mask-none (suc (length old)) f
+mask-all k (o ∷ old) (v ∷ new) f e =
+    mask-bit (length old) (oneUnless (sameSlot o v)) (changedMask old new) f (oneUnless-le (sameSlot o v))
+    ∙ ap₂ {C = List Sent} (λ x y. x ++ y) (bit-opened k o v (f 0) (opens-head k o v old new f e)) (mask-all (suc k) old new (λ j. f (suc j)) (opens-tail k o v old new f e))
+
+-- The slots that `othersMask` names are sent as the model sends the others.
+pub mask-others : (c k : ℕ) (old new : Table) (f : ℕ → List Sent) → Opens k old new f → ofMask (length old) (othersMask c old new) f ≡ otherChanges c k old new
+mask-others c k [] new f e = mask-none 0 f
+mask-others c k (o ∷ old) [] f e = mask-none (suc (length old)) f
+mask-others zero k (o ∷ old) (v ∷ new) f e =
+    let z : 2 * changedMask old new ≡ 0 + 2 * changedMask old new = omega arith in
+    ap (λ m. ofMask (suc (length old)) m f) z
+    ∙ mask-bit (length old) 0 (changedMask old new) f (omega arith)
+    ∙ mask-all (suc k) old new (λ j. f (suc j)) (opens-tail k o v old new f e)
+mask-others (suc c) k (o ∷ old) (v ∷ new) f e =
+    mask-bit (length old) (oneUnless (sameSlot o v)) (othersMask c old new) f (oneUnless-le (sameSlot o v))
+    ∙ ap₂ {C = List Sent} (λ x y. x ++ y) (bit-opened k o v (f 0) (opens-head k o v old new f e)) (mask-others c (suc k) old new (λ j. f (suc j)) (opens-tail k o v old new f e))
+
+-- ---- its ones, and its sum with the current slot's bit
+
+-- The ones of `othersMask` are the slot term of the event count.
+pub others-ones : (c : ℕ) (old new : Table) → ones (othersMask c old new) ≡ changedOthers c old new
+unfolding ones
+others-ones c [] new = refl
+others-ones c (o ∷ old) [] = refl
+others-ones zero (o ∷ old) (v ∷ new) =
+    let m = changedMask old new in
+    let low : 2 * m % 2 ≡ 0 = omega arith in
+    let up : 2 * m / 2 ≡ m = omega arith in
+    ones-step (2 * m) ∙ ap₂ (λ x y. x + ones y) low up ∙ ap (λ x. 0 + x) (mask-ones old new) ∙ zero-plus (changedSlots old new)
+  where
+    zero-plus : (x : ℕ) → 0 + x ≡ x
+    zero-plus x = omega arith
+others-ones (suc c) (o ∷ old) (v ∷ new) =
+    let b = oneUnless (sameSlot o v) in
+    let m = othersMask c old new in
+    ones-step (b + 2 * m) ∙ ap₂ (λ x y. x + ones y) (low-bit b m (oneUnless-le (sameSlot o v))) (high-bits b m (oneUnless-le (sameSlot o v))) ∙ ap (λ x. b + x) (others-ones c old new)
+
+pub mask-split : (c : ℕ) (old new : Table) → c < length old → c < length new
+    → changedMask old new ≡ othersMask c old new + oneUnless (sameSlot (getD old c []) (getD new c [])) * 2 ^ c
+mask-split c [] new h g = absurd (omega arith)
+mask-split c (o ∷ old) [] h g = absurd (omega arith)
+mask-split zero (o ∷ old) (v ∷ new) h g = omega arith
+mask-split (suc c) (o ∷ old) (v ∷ new) h g =
+    let b = oneUnless (sameSlot (getD old c []) (getD new c [])) in
+    let p : 2 ^ suc c ≡ 2 ^ c * 2 = pow-suc 2 c in
+    let q : b * 2 ^ suc c ≡ b * 2 ^ c * 2 = ap (λ x. b * x) p ∙ sym (mul-assoc b (2 ^ c) 2) in
+    omega (arith, mask-split c old new (omega arith) (omega arith), q)

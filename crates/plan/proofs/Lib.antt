@@ -1,0 +1,2 @@
+-- The laws behind the plan.
+pub mod Turn

@@ -1,0 +1,158 @@
+-- One turn of the plan: what a slot becomes, and the table and counter that are left to make. Cited by the proofs here; `good-plain` by the writer. Assumes nothing.
+use mathlib.Core.Path.{_≡_, refl, sym, ap, ap₂, _∙_}
+use mathlib.Core.Bool.{Bool, true, false, cond, _&&_, _||_}
+use mathlib.Core.List.{List, [], _∷_, _++_, append-assoc, map-append}
+use Prim.Native.Nat.{ℕ, zero, suc, _+_, _<_}
+use native.Mathlib.Numerals.{add-one}
+use native.Mathlib.Omega.{arith}
+use lib.IntN.{ℤ, pos, negsuc}
+use lib.ListN.{length, take, drop, getD, set}
+use lib.Seq.{drop-cons, take-suc-set, drop-set-lt}
+use lib.Signed.{leZ}
+use Rattle.model.specs.Numbers.{eqZ, betweenZ}
+use Rattle.model.specs.Table.{Table, numbersOf, goodSlot, live}
+use Rattle.model.specs.Records.{bitsOf}
+use Rattle.model.specs.Frame.{numbersFrom, rowsFrom, kindOf, goodRow, goodRows, Fate, none, goesOn, begins, fate, freeId, slotAfter, takenAfter, counterAfter, tableFrom, counterFrom}
+use Rattle.model.proofs.Tries.{Same, table-same, counter-same}
+use Rattle.panel.specs.declared.Slot as S
+use Rattle.panel.specs.declared.Setup.{Setup}
+use Rattle.panel.specs.Seen.{slotOf, tableOf, axesOf, blank}
+use Rattle.plan.specs.Row.{begun, held, stayed, unsigned, plainRow, plainRows}
+
+-- ---- a row's numbers
+
+own-bits : (v : ℤ) (b : Bool) → (leZ (pos 0) v && b) ≡ true → pos (bitsOf v) ≡ v
+unfolding bitsOf
+own-bits (pos n) b e = refl
+own-bits (negsuc n) b e = let z : _≡_ {A = ℕ} 0 1 = cc in absurd (omega arith)
+
+pub and-left : (a b : Bool) → (a && b) ≡ true → a ≡ true
+and-left true b e = refl
+and-left false b e = e
+
+pub and-right : (a b : Bool) → (a && b) ≡ true → b ≡ true
+and-right true b e = e
+and-right false b e = let z : _≡_ {A = ℕ} 0 1 = cc in absurd (omega arith)
+
+abbrev three : ℤ → ℤ → ℤ → List ℤ
+three x y p = x ∷ y ∷ p ∷ []
+
+same-three : (x y p : ℤ) → unsigned (three x y p) ≡ true → three (pos (bitsOf x)) (pos (bitsOf y)) (pos (bitsOf p)) ≡ three x y p
+same-three x y p e =
+    let f = and-right (leZ (pos 0) x) _ e in
+    let g = and-right (leZ (pos 0) y) _ f in
+    rw (own-bits x _ e, own-bits y _ f, own-bits p _ g)
+
+-- Numbers that are good for a setup are not negative.
+good-unsigned : (u : Setup) (x y p : ℤ) → goodSlot (axesOf u) (three x y p) ≡ true → unsigned (three x y p) ≡ true
+good-unsigned u x y p g =
+    let g2 = and-right (betweenZ (pos 0) (pos (u .x)) x) _ g in
+    let g3 = and-right (betweenZ (pos 0) (pos (u .y)) y) _ g2 in
+    let a = and-left (leZ (pos 0) x) _ (and-left (betweenZ (pos 0) (pos (u .x)) x) _ g) in
+    let b = and-left (leZ (pos 0) y) _ (and-left (betweenZ (pos 0) (pos (u .y)) y) _ g2) in
+    let d = and-left (leZ (pos 0) p) _ (and-left (betweenZ (pos 0) (pos (u .pressure)) p) _ g3) in
+    rw (a, b, d)
+
+row-plain : (u : Setup) (k x y p : ℤ) → goodRow (axesOf u) (k ∷ three x y p) ≡ true → plainRow (k ∷ three x y p) ≡ true
+row-plain u k x y p g =
+    (elim (eqZ k (pos 0)) as (λ b. (b || ((eqZ k (pos 1) || eqZ k (pos 2)) && goodSlot (axesOf u) (three x y p))) ≡ true → (b || unsigned (three x y p)) ≡ true) [
+      | true ↦ λ e. refl
+      | false ↦ λ e. good-unsigned u x y p (and-right (eqZ k (pos 1) || eqZ k (pos 2)) _ e)
+    ]) g
+
+-- Rows that are good for a setup are plain.
+pub good-plain : (u : Setup) (n : ℕ) (f : List ℤ) (at : ℕ) → goodRows (axesOf u) (rowsFrom 4 n f at) ≡ true → plainRows (rowsFrom 4 n f at) ≡ true
+unfolding rowsFrom
+good-plain u zero f at g = refl
+good-plain u (suc n) f at g =
+    let e = row-plain u (getD f at (pos 0)) (getD f (at + 1) (pos 0)) (getD f (at + 1 + 1) (pos 0)) (getD f (at + 1 + 1 + 1) (pos 0)) (and-left (goodRow (axesOf u) (numbersFrom 4 f at)) _ g) in
+    let r = good-plain u n f (at + 4) (and-right (goodRow (axesOf u) (numbersFrom 4 f at)) _ g) in
+    ap₂ (λ a b. a && b) e r
+
+-- ---- a slot by its fate
+
+is-begun : (f : Fate) → begun f ≡ true → f ≡ begins
+is-begun none e = let z : _≡_ {A = ℕ} 0 1 = cc in absurd (omega arith)
+is-begun goesOn e = let z : _≡_ {A = ℕ} 0 1 = cc in absurd (omega arith)
+is-begun begins e = refl
+
+abbrev fateBy : Bool → Bool → Bool → Fate
+fateBy k0 k2 lives = cond k0 none (cond k2 begins (cond lives goesOn begins))
+
+module _ (was : S.Slot) (x y p : ℤ) (j : ℕ) where
+  begun-by : (k0 k2 lives : Bool) → begun (fateBy k0 k2 lives) ≡ true → (k0 || unsigned (three x y p)) ≡ true → slotOf (held (pos j) x y p) ≡ slotAfter (fateBy k0 k2 lives) j (slotOf was) (three x y p)
+  begun-by true k2 lives e g = let z : _≡_ {A = ℕ} 0 1 = cc in absurd (omega arith)
+  begun-by false true lives e g = ap (λ l. pos j ∷ l) (same-three x y p g)
+  begun-by false false true e g = let z : _≡_ {A = ℕ} 0 1 = cc in absurd (omega arith)
+  begun-by false false false e g = ap (λ l. pos j ∷ l) (same-three x y p g)
+
+  stayed-by : (k0 k2 lives : Bool) → begun (fateBy k0 k2 lives) ≡ false → (k0 || unsigned (three x y p)) ≡ true → slotOf (stayed k0 was x y p) ≡ slotAfter (fateBy k0 k2 lives) j (slotOf was) (three x y p)
+  stayed-by true k2 lives e g = refl
+  stayed-by false true lives e g = let z : _≡_ {A = ℕ} 0 1 = cc in absurd (omega arith)
+  stayed-by false false true e g = ap (λ l. was .id .0 ∷ l) (same-three x y p g)
+  stayed-by false false false e g = let z : _≡_ {A = ℕ} 0 1 = cc in absurd (omega arith)
+
+  -- A slot in which a contact begins has the given id and the row's numbers.
+  pub begun-slot : (kind : ℤ) → begun (fate kind (was .id .0)) ≡ true → plainRow (kind ∷ three x y p) ≡ true
+      → slotOf (held (pos j) x y p) ≡ slotAfter (fate kind (was .id .0)) j (slotOf was) (three x y p)
+  begun-slot kind e g = begun-by (eqZ kind (pos 0)) (eqZ kind (pos 2)) (live (was .id .0)) e g
+
+  -- In any other the id stays, or the contact is lifted.
+  pub stayed-slot : (kind : ℤ) → begun (fate kind (was .id .0)) ≡ false → plainRow (kind ∷ three x y p) ≡ true
+      → slotOf (stayed (eqZ kind (pos 0)) was x y p) ≡ slotAfter (fate kind (was .id .0)) j (slotOf was) (three x y p)
+  stayed-slot kind e g = stayed-by (eqZ kind (pos 0)) (eqZ kind (pos 2)) (live (was .id .0)) e g
+
+pub begun-taken : (f : Fate) (j : ℕ) (l : List ℤ) → begun f ≡ true → takenAfter f j l ≡ pos j ∷ l
+begun-taken f j l e = ap (λ g. takenAfter g j l) (is-begun f e)
+
+pub begun-counter : (f : Fate) (j k : ℕ) → begun f ≡ true → counterAfter f j k ≡ counterAfter begins j k
+begun-counter f j k e = ap (λ g. counterAfter g j k) (is-begun f e)
+
+pub stayed-taken : (f : Fate) (j : ℕ) (l : List ℤ) → begun f ≡ false → takenAfter f j l ≡ l
+stayed-taken none j l e = refl
+stayed-taken goesOn j l e = refl
+stayed-taken begins j l e = let z : _≡_ {A = ℕ} 0 1 = cc in absurd (omega arith)
+
+pub stayed-counter : (f : Fate) (j k : ℕ) → begun f ≡ false → counterAfter f j k ≡ k
+stayed-counter none j k e = refl
+stayed-counter goesOn j k e = refl
+stayed-counter begins j k e = let z : _≡_ {A = ℕ} 0 1 = cc in absurd (omega arith)
+
+-- ---- slot s of the table t is made w, by the row g; `taken` and k are the ids taken and the counter before it, and more and n after it
+
+module _ (taken : List ℤ) (k : ℕ) (t : List S.Slot) (s : ℕ) (h : s < length t) (g : List ℤ) (fr : List (List ℤ)) (w : S.Slot) (more : List ℤ) (n : ℕ) where
+  abbrev becomes : Fate
+  becomes = fate (kindOf g) (getD t s blank .id .0)
+
+  abbrev given : ℕ
+  given = freeId taken k
+
+  rest-is : drop s t ≡ getD t s blank ∷ drop (s + 1) t
+  rest-is = rw add-one (drop-cons t s blank h)
+
+  made-is : tableOf (take (s + 1) (set t s w)) ≡ tableOf (take s t) ++ slotOf w ∷ []
+  made-is =
+      let e : take (s + 1) (set t s w) ≡ take s t ++ w ∷ [] = rw add-one (take-suc-set t s w h) in
+      ap tableOf e ∙ map-append slotOf (take s t) (w ∷ [])
+
+  kept-is : drop (s + 1) (set t s w) ≡ drop (s + 1) t
+  kept-is = drop-set-lt (s + 1) t s w (omega arith)
+
+  pub table-turn : slotOf w ≡ slotAfter becomes given (slotOf (getD t s blank)) (numbersOf g) → Same (takenAfter becomes given taken) more → counterAfter becomes given k ≡ n
+      → tableOf (take s t) ++ tableFrom taken k (g ∷ fr) (tableOf (drop s t)) ≡ tableOf (take (s + 1) (set t s w)) ++ tableFrom more n fr (tableOf (drop (s + 1) (set t s w)))
+  table-turn e q r =
+      let d = tableOf (drop (s + 1) t) in
+      ap (λ l. tableOf (take s t) ++ tableFrom taken k (g ∷ fr) (tableOf l)) rest-is
+      ∙ ap₂ {C = Table} (λ a b. tableOf (take s t) ++ a ∷ b) (sym e)
+      (table-same (takenAfter becomes given taken) more (counterAfter becomes given k) fr d q ∙ ap (λ m. tableFrom more m fr d) r)
+      ∙ sym (append-assoc (tableOf (take s t)) (slotOf w ∷ []) (tableFrom more n fr d))
+      ∙ ap₂ {C = Table} (λ a b. a ++ tableFrom more n fr (tableOf b)) (sym made-is) (sym kept-is)
+
+  pub counter-turn : Same (takenAfter becomes given taken) more → counterAfter becomes given k ≡ n
+      → counterFrom taken k (g ∷ fr) (tableOf (drop s t)) ≡ counterFrom more n fr (tableOf (drop (s + 1) (set t s w)))
+  counter-turn q r =
+      let d = tableOf (drop (s + 1) t) in
+      ap (λ l. counterFrom taken k (g ∷ fr) (tableOf l)) rest-is
+      ∙ counter-same (takenAfter becomes given taken) more (counterAfter becomes given k) fr d q
+      ∙ ap (λ m. counterFrom more m fr d) r
+      ∙ ap (λ l. counterFrom more n fr (tableOf l)) (sym kept-is)

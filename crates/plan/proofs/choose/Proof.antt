@@ -1,0 +1,88 @@
+-- `plan::choose` finds the first number that is not taken. The loop has tried and passed taken ones; `tries` are left. Assumes nothing.
+use borrow.Author.Needs.{needs}
+use mathlib.Core.Path.{_≡_, refl, sym, ap, _∙_}
+use Prim.Native.Nat.{_≤_, _<_, _-_}
+use native.Mathlib.Omega.{arith}
+use lib.IntN.{pos}
+use mir.Syntax.{w32}
+use mir.Val.{SFits}
+use mir.ValLaws.{toZ-ofZ}
+use Rattle.model.specs.Table.{unheld}
+use Rattle.model.specs.Frame.{freeId, pick, next}
+use Rattle.model.proofs.Tries.{freeId-short, pick-stays, pick-held}
+use Rattle.plan.proofs.choose.Statement.{statement}
+use Rattle.plan.proofs.choose.Tie as tie
+
+abbrev Inv-loop : tie.InvT-loop
+Inv-loop taken from k₀ tries₀ k tries = (k < 65536) × (tries ≤ 32) × (freeId taken from ≡ pick tries taken k)
+
+abbrev μ-loop : tie.MeasureT-loop
+μ-loop taken from k₀ tries₀ k tries = tries
+
+-- what a turn's test says
+told : (c : tie.After-absent Inv-loop μ-loop) → c .absent .result ≡ unheld (pos (c .before .before .before .loop .k)) (c .before .before .before .before .args .taken .now)
+told c =
+    let l = c .before .before .before .before .args .taken .now in
+    let i = c .before .id-of in
+    let f : SFits w32 (i .result) = search needs in
+    let e : c .absent .result ≡ unheld (i .result) l = rw (toZ-ofZ w32 (i .result) f) at (c .absent .ensures) in
+    e ∙ ap (λ v. unheld v l) (i .ensures)
+
+loop-holds : tie.Need-loop-holds Inv-loop μ-loop
+loop-holds c =
+    let a = c .args in
+    (search needs, search needs, freeId-short 32 (a .taken .now) (a .from) (c .pre .1) (c .pre .0) (omega arith))
+
+id-of-requires : tie.Need-id-of-requires Inv-loop μ-loop
+id-of-requires c κs = search needs
+
+absent-requires : tie.Need-absent-requires Inv-loop μ-loop
+absent-requires c κs = search needs
+
+returns : tie.Need-returns Inv-loop μ-loop
+returns c =
+    let l = c .before .before .before .before .loop in
+    let t = c .before .before .before .before .before .args .taken .now in
+    (l .inv .0, sym (l .inv .2 ∙ pick-stays (l .tries) t (l .k) (sym (told (c .before)) ∙ c .if1 .taken)))
+
+after-requires : tie.Need-after-requires Inv-loop μ-loop
+after-requires c κs = search needs
+
+sub-tries : tie.Need-sub-tries Inv-loop μ-loop
+sub-tries c = search needs
+
+loop-less : tie.Need-loop-less Inv-loop μ-loop
+loop-less c = search needs
+
+loop-again : tie.Need-loop-again Inv-loop μ-loop
+loop-again c =
+    let l = c .before .before .before .before .before .loop in
+    let t = c .before .before .before .before .before .before .args .taken .now in
+    let e : c .after .result ≡ next (l .k) = c .after .ensures in (
+      omega arith,
+      search needs,
+      l .inv .2 ∙ pick-held (l .tries) t (l .k) (c .before .before .before .before .loop-test .taken) (sym (told (c .before .before)) ∙ c .before .if1 .left) ∙ ap (pick (l .tries - 1) t) (sym e),
+    )
+
+returns-2 : tie.Need-returns-2 Inv-loop μ-loop
+returns-2 c =
+    let l = c .before .loop in
+    let t = c .before .before .args .taken .now in
+    let z : l .tries ≡ 0 = omega arith in
+    (l .inv .0, sym (l .inv .2 ∙ ap (λ m. pick m t (l .k)) z))
+
+pub choose-spec : {M : Type 1} → statement M
+choose-spec =
+    tie.close
+    (tie.spec
+    Inv-loop
+    μ-loop
+    loop-holds
+    id-of-requires
+    absent-requires
+    returns
+    after-requires
+    sub-tries
+    loop-less
+    loop-again
+    returns-2)

@@ -1,0 +1,23 @@
+-- `plan::contact` is a slot with an id and a row's numbers. Assumes nothing.
+use mir.Syntax.{w32}
+use mir.ValLaws.{toZ-ofZ}
+use borrow.Author.Needs.{needs}
+use Rattle.plan.proofs.contact.Statement.{statement}
+use Rattle.plan.proofs.contact.Tie as tie
+
+bits-of-requires : tie.Need-bits-of-requires
+bits-of-requires c κs = search needs
+
+bits-of-requires-2 : tie.Need-bits-of-requires-2
+bits-of-requires-2 c κs = search needs
+
+bits-of-requires-3 : tie.Need-bits-of-requires-3
+bits-of-requires-3 c κs = search needs
+
+returns : tie.Need-returns
+returns c =
+    let s = c .before .before .before in
+    rw (c .bits-of3 .ensures, c .before .bits-of2 .ensures, c .before .before .bits-of .ensures, toZ-ofZ w32 (s .args .id) (s .fits .id), toZ-ofZ w32 (s .args .x) (s .fits .x), toZ-ofZ w32 (s .args .y) (s .fits .y), toZ-ofZ w32 (s .args .pressure) (s .fits .pressure))
+
+pub contact-spec : {M : Type 1} → statement M
+contact-spec = tie.close (tie.spec bits-of-requires bits-of-requires-2 bits-of-requires-3 returns)

@@ -1,0 +1,85 @@
+-- `plan::ids_of` has the ids of a table in its first places. The loop has copied i of them. Assumes nothing.
+use borrow.Author.Needs.{needs}
+use mathlib.Core.Path.{_≡_, refl, sym, ap₂, _∙_}
+use mathlib.Core.List.{List, _∷_, [], _++_}
+use Prim.Native.Nat.{_≤_, _<_, _+_, _-_}
+use native.Mathlib.Numerals.{add-one}
+use native.Mathlib.Omega.{arith}
+use lib.IntN.{ℤ, pos}
+use lib.ListN.{length, take, getD, length-map, length-set}
+use lib.Seq.{take-suc, take-suc-set, take-all}
+use mir.Syntax.{w32}
+use mir.Val.{SFits}
+use mir.ValLaws.{toZ-ofZ}
+use Rattle.model.specs.Table.{ids}
+use Rattle.panel.specs.Seen.{tableOf, blank}
+use Rattle.panel.proofs.Tables.{id-at}
+use Rattle.plan.proofs.ids_of.Statement.{statement}
+use Rattle.plan.proofs.ids_of.Tie as tie
+
+abbrev Inv-loop : tie.InvT-loop
+Inv-loop t l₀ i₀ l i = (i ≤ 16) × (length l ≡ 32) × (take i l ≡ take i (ids (tableOf t)))
+
+abbrev μ-loop : tie.MeasureT-loop
+μ-loop t l₀ i₀ l i = 16 - i
+
+loop-holds : tie.Need-loop-holds Inv-loop μ-loop
+loop-holds c = search needs
+
+mul-s : tie.Need-mul-s Inv-loop μ-loop
+mul-s c = search needs
+
+array-copy-out-s : tie.Need-array-copy-out-s Inv-loop μ-loop
+array-copy-out-s c = search needs
+
+mul-l : tie.Need-mul-l Inv-loop μ-loop
+mul-l c = search needs
+
+array-set-from-l : tie.Need-array-set-from-l Inv-loop μ-loop
+array-set-from-l c = search needs
+
+add-i : tie.Need-add-i Inv-loop μ-loop
+add-i c = search needs
+
+loop-less : tie.Need-loop-less Inv-loop μ-loop
+loop-less c = search needs
+
+loop-again : tie.Need-loop-again Inv-loop μ-loop
+loop-again c =
+    let t = c .before .before .before .before .before .args .t1 in
+    let l = c .before .before .before .before .loop in
+    let v = getD t (l .i) blank .id .0 in
+    let f : SFits w32 v = search needs in
+    let lt : length t ≡ 16 = search needs in
+    let inside : l .i < length (ids (tableOf t)) = simp (length-map, lt) (search needs) in
+    let room : l .i < length (l .l) = omega (arith, l .inv .1) in
+    rw (toZ-ofZ w32 v f) (
+      search needs,
+      length-set (l .l) (l .i) v ∙ l .inv .1,
+      rw add-one (take-suc-set (l .l) (l .i) v room ∙ ap₂ (λ (a : List ℤ) (b : ℤ). a ++ b ∷ []) (l .inv .2) (sym (id-at t (l .i))) ∙ sym (take-suc (ids (tableOf t)) (l .i) (pos 0) inside)),
+    )
+
+returns : tie.Need-returns Inv-loop μ-loop
+returns c =
+    let t = c .before .before .args .t1 in
+    let l = c .before .loop in
+    let e : l .i ≡ 16 = omega arith in
+    let lt : length t ≡ 16 = search needs in
+    let few : length (ids (tableOf t)) ≤ 16 = simp (length-map, lt) (omega arith) in
+    rw e at (l .inv .2) ∙ take-all 16 (ids (tableOf t)) few
+
+pub ids-of-spec : {M : Type 1} → statement M
+ids-of-spec =
+    tie.close
+    (tie.spec
+    Inv-loop
+    μ-loop
+    loop-holds
+    mul-s
+    array-copy-out-s
+    mul-l
+    array-set-from-l
+    add-i
+    loop-less
+    loop-again
+    returns)

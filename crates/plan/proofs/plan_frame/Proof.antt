@@ -1,0 +1,340 @@
+-- `plan::plan_frame` makes the table and the counter after a frame. The loop has made the first s slots; the first m of `taken` are the ids taken so far, and the rest of t is as it was. Assumes nothing.
+use borrow.Author.Needs.{needs}
+use mathlib.Core.Path.{_≡_, refl, sym, ap, ap₂, _∙_}
+use mathlib.Core.Bool.{true, false, _&&_}
+use mathlib.Core.List.{List, [], _∷_, _++_, map-append}
+use Prim.Native.Nat.{_<_, _≤_, _+_, _-_, _*_}
+use native.Mathlib.Numerals.{add-one}
+use native.Mathlib.Omega.{arith}
+use lib.IntN.{ℤ, pos}
+use lib.ListN.{length, take, drop, getD, set, length-set, take-append-drop}
+use lib.Seq.{length-take-le, take-suc-set}
+use mir.Syntax.{w32}
+use mir.Val.{SFits}
+use mir.ValLaws.{toZ-ofZ}
+use Rattle.model.specs.Numbers.{eqZ}
+use Rattle.model.specs.Frame.{begins, fate, next, freeId, rowsFrom, takenAfter, counterAfter, tableFrom, counterFrom, newTable, newCounter}
+use Rattle.model.proofs.Rows.{rows-next, rows-none, row-of-four}
+use Rattle.model.proofs.Tries.{Same, same-last}
+use Rattle.panel.specs.Seen.{slotOf, tableOf, blank}
+use Rattle.plan.specs.Row.{begun, held, stayed, plainRow, plainRows}
+use Rattle.plan.proofs.Turn.{and-left, and-right, begun-slot, stayed-slot, begun-taken, begun-counter, stayed-taken, stayed-counter, table-turn, counter-turn}
+use Rattle.plan.proofs.plan_frame.Statement.{statement}
+use Rattle.plan.proofs.plan_frame.Tie as tie
+
+abbrev Inv-loop : tie.InvT-loop
+Inv-loop n counter frame taken₀ m₀ t₀ k₀ s₀ taken m t k s =
+    (s ≤ n) × (m ≤ 16 + s) × (k < 65536) × (length t ≡ 16) × (length taken ≡ 32)
+    × (plainRows (rowsFrom 4 (n - s) frame (4 * s)) ≡ true)
+    × (newTable counter (rowsFrom 4 n frame 0) (tableOf t₀) ≡ tableOf (take s t) ++ tableFrom (take m taken) k (rowsFrom 4 (n - s) frame (4 * s)) (tableOf (drop s t)))
+    × (newCounter counter (rowsFrom 4 n frame 0) (tableOf t₀) ≡ counterFrom (take m taken) k (rowsFrom 4 (n - s) frame (4 * s)) (tableOf (drop s t)))
+
+abbrev μ-loop : tie.MeasureT-loop
+μ-loop n counter frame taken₀ m₀ t₀ k₀ s₀ taken m t k s = n - s
+
+ids-of-requires : tie.Need-ids-of-requires Inv-loop μ-loop
+ids-of-requires c κs = search needs
+
+loop-holds : tie.Need-loop-holds Inv-loop μ-loop
+loop-holds c =
+    let a = c .before .args in
+    let z : a .n - 0 ≡ a .n = omega arith in
+    let lt : length (a .old) ≡ 16 = search needs in
+    let ll : length (c .ids-of .result) ≡ 32 = search needs in
+    rw (z, c .ids-of .ensures) (search needs, search needs, search needs, lt, ll, c .before .pre .3, refl, refl)
+
+mul-i : tie.Need-mul-i Inv-loop μ-loop
+mul-i c = search needs
+
+mul-kind : tie.Need-mul-kind Inv-loop μ-loop
+mul-kind c = search needs
+
+shared-slice-copy-out-kind : tie.Need-shared-slice-copy-out-kind Inv-loop μ-loop
+shared-slice-copy-out-kind c = search needs
+
+mul-was : tie.Need-mul-was Inv-loop μ-loop
+mul-was c = search needs
+
+array-copy-out-was : tie.Need-array-copy-out-was Inv-loop μ-loop
+array-copy-out-was c = search needs
+
+begins-requires : tie.Need-begins-requires Inv-loop μ-loop
+begins-requires c κs = search needs
+
+array-share-prefix-taken : tie.Need-array-share-prefix-taken Inv-loop μ-loop
+array-share-prefix-taken c = search needs
+
+slice-aggregate-choose : tie.Need-slice-aggregate-choose Inv-loop μ-loop
+slice-aggregate-choose c =
+    let l = c .before .before .before .before .before .before .before .before .loop in
+    let st = c .before .before .before .before .before .before .before .before .before .before in
+    let h : l .s < st .args .n = c .before .before .before .before .before .before .before .loop-test .taken in
+    let fit : l .m ≤ length (l .taken) = omega (arith, l .inv .1, l .inv .4, st .pre .0) in
+    sym (length-take-le (l .m) (l .taken) fit)
+
+choose-requires : tie.Need-choose-requires Inv-loop μ-loop
+choose-requires c κs =
+    let l = c .before .before .before .before .before .before .before .before .loop in
+    let st = c .before .before .before .before .before .before .before .before .before .before in
+    let h : l .s < st .args .n = c .before .before .before .before .before .before .before .loop-test .taken in
+    let fit : l .m ≤ length (l .taken) = omega (arith, l .inv .1, l .inv .4, st .pre .0) in
+    let few : length (take (l .m) (l .taken)) ≡ l .m = length-take-le (l .m) (l .taken) fit in
+    (omega (arith, few, l .inv .1, st .pre .0), l .inv .2)
+
+id-of-requires : tie.Need-id-of-requires Inv-loop μ-loop
+id-of-requires c κs = search needs
+
+add-contact : tie.Need-add-contact Inv-loop μ-loop
+add-contact c = search needs
+
+mul-contact : tie.Need-mul-contact Inv-loop μ-loop
+mul-contact c = search needs
+
+shared-slice-copy-out-contact : tie.Need-shared-slice-copy-out-contact Inv-loop μ-loop
+shared-slice-copy-out-contact c = search needs
+
+add-contact-2 : tie.Need-add-contact-2 Inv-loop μ-loop
+add-contact-2 c = search needs
+
+mul-contact-2 : tie.Need-mul-contact-2 Inv-loop μ-loop
+mul-contact-2 c = search needs
+
+shared-slice-copy-out-contact-2 : tie.Need-shared-slice-copy-out-contact-2 Inv-loop μ-loop
+shared-slice-copy-out-contact-2 c = search needs
+
+add-contact-3 : tie.Need-add-contact-3 Inv-loop μ-loop
+add-contact-3 c = search needs
+
+mul-contact-3 : tie.Need-mul-contact-3 Inv-loop μ-loop
+mul-contact-3 c = search needs
+
+shared-slice-copy-out-contact-3 : tie.Need-shared-slice-copy-out-contact-3 Inv-loop μ-loop
+shared-slice-copy-out-contact-3 c = search needs
+
+contact-requires : tie.Need-contact-requires Inv-loop μ-loop
+contact-requires c κs = search needs
+
+mul-t : tie.Need-mul-t Inv-loop μ-loop
+mul-t c = search needs
+
+array-set-from-t : tie.Need-array-set-from-t Inv-loop μ-loop
+array-set-from-t c = search needs
+
+mul-taken : tie.Need-mul-taken Inv-loop μ-loop
+mul-taken c = search needs
+
+array-set-from-taken : tie.Need-array-set-from-taken Inv-loop μ-loop
+array-set-from-taken c = search needs
+
+add-m : tie.Need-add-m Inv-loop μ-loop
+add-m c = search needs
+
+after-requires : tie.Need-after-requires Inv-loop μ-loop
+after-requires c κs = search needs
+
+add-s : tie.Need-add-s Inv-loop μ-loop
+add-s c = search needs
+
+loop-less : tie.Need-loop-less Inv-loop μ-loop
+loop-less c = search needs
+
+loop-again : tie.Need-loop-again Inv-loop μ-loop
+loop-again c =
+    let st = c .before .before .before .before .before .before .before .before .before .before .before .before .before .before .before .before .before in
+    let l = c .before .before .before .before .before .before .before .before .before .before .before .before .before .before .before .loop in
+    let n = st .args .n in
+    let f = st .args .frame .now in
+    let T = take (l .m) (l .taken) in
+    let rest = rowsFrom 4 (n - (l .s + 1)) f (4 * (l .s + 1)) in
+    let k0 = getD f (4 * l .s) (pos 0) in
+    let k1 = getD f (4 * l .s + 1) (pos 0) in
+    let k2 = getD f (4 * l .s + 2) (pos 0) in
+    let k3 = getD f (4 * l .s + 3) (pos 0) in
+    let g = k0 ∷ k1 ∷ k2 ∷ k3 ∷ [] in
+    let was = getD (l .t) (l .s) blank in
+    let f0 : SFits w32 k0 = search needs in
+    let f1 : SFits w32 k1 = search needs in
+    let f2 : SFits w32 k2 = search needs in
+    let f3 : SFits w32 k3 = search needs in
+    let f4 : SFits w32 (was .id .0) = search needs in
+    let h : l .s < n = c .before .before .before .before .before .before .before .before .before .before .before .before .before .before .loop-test .taken in
+    let ht : l .s < length (l .t) = omega (arith, l .inv .3, st .pre .0) in
+    let rows : rowsFrom 4 (n - l .s) f (4 * l .s) ≡ g ∷ rest = rows-next 4 n (l .s) f h ∙ ap {B = List (List ℤ)} (λ r. r ∷ rest) (row-of-four f (4 * l .s)) in
+    let plain : (plainRow g && plainRows rest) ≡ true = sym (ap plainRows rows) ∙ l .inv .5 in
+    let begin : c .before .before .before .before .before .before .before .before .before .begins .result ≡ begun (fate k0 (was .id .0)) = rw (toZ-ofZ w32 k0 f0, toZ-ofZ w32 (was .id .0) f4) at (c .before .before .before .before .before .before .before .before .before .begins .ensures) in
+    let j = freeId T (l .k) in
+    let yes : begun (fate k0 (was .id .0)) ≡ true = sym begin ∙ c .before .before .before .before .before .before .before .before .if1 .taken in
+    let fit : l .m < length (l .taken) = omega (arith, l .inv .1, l .inv .4, st .pre .0) in
+    let id = c .before .before .before .before .before .id-of in
+    let ji : c .before .before .before .before .before .before .choose .result ≡ j = c .before .before .before .before .before .before .choose .ensures .1 in
+    let small : c .before .before .before .before .before .before .choose .result < 65536 = c .before .before .before .before .before .before .choose .ensures .0 in
+    let fi : SFits w32 (id .result) = search needs in
+    let v : id .result ≡ pos j = id .ensures ∙ ap pos ji in
+    let w : c .before .contact .result ≡ held (pos j) k1 k2 k3 = rw (toZ-ofZ w32 (id .result) fi, toZ-ofZ w32 k1 f1, toZ-ofZ w32 k2 f2, toZ-ofZ w32 k3 f3, v) at (c .before .contact .ensures) in
+    let u : c .after .result ≡ next j = c .after .ensures ∙ ap next ji in
+    let W = c .before .contact .result in
+    let more : take (l .m + 1) (set (l .taken) (l .m) (pos j)) ≡ T ++ pos j ∷ [] = rw add-one (take-suc-set (l .taken) (l .m) (pos j) fit) in
+    let same : Same (takenAfter (fate k0 (was .id .0)) j T) (take (l .m + 1) (set (l .taken) (l .m) (pos j))) = rw (more, begun-taken (fate k0 (was .id .0)) j T yes) (same-last (pos j) T) in
+    let count : counterAfter (fate k0 (was .id .0)) j (l .k) ≡ c .after .result = begun-counter (fate k0 (was .id .0)) j (l .k) yes ∙ sym u in
+    let slot : slotOf W ≡ _ = ap slotOf w ∙ begun-slot was k1 k2 k3 j k0 yes (and-left (plainRow g) (plainRows rest) plain) in
+    let M = take (l .m + 1) (set (l .taken) (l .m) (pos j)) in
+    rw (toZ-ofZ w32 (id .result) fi, v) (
+      omega arith,
+      omega (arith, l .inv .1),
+      omega (arith, c .after .ensures),
+      length-set (l .t) (l .s) W ∙ l .inv .3,
+      length-set (l .taken) (l .m) (pos j) ∙ l .inv .4,
+      and-right (plainRow g) (plainRows rest) plain,
+      l .inv .6 ∙ ap (λ r. tableOf (take (l .s) (l .t)) ++ tableFrom T (l .k) r (tableOf (drop (l .s) (l .t)))) rows ∙ table-turn T (l .k) (l .t) (l .s) ht g rest W M (c .after .result) slot same count,
+      l .inv .7 ∙ ap (λ r. counterFrom T (l .k) r (tableOf (drop (l .s) (l .t)))) rows ∙ counter-turn T (l .k) (l .t) (l .s) ht g rest W M (c .after .result) same count,
+    )
+
+add-stays : tie.Need-add-stays Inv-loop μ-loop
+add-stays c = search needs
+
+mul-stays : tie.Need-mul-stays Inv-loop μ-loop
+mul-stays c = search needs
+
+shared-slice-copy-out-stays : tie.Need-shared-slice-copy-out-stays Inv-loop μ-loop
+shared-slice-copy-out-stays c = search needs
+
+add-stays-2 : tie.Need-add-stays-2 Inv-loop μ-loop
+add-stays-2 c = search needs
+
+mul-stays-2 : tie.Need-mul-stays-2 Inv-loop μ-loop
+mul-stays-2 c = search needs
+
+shared-slice-copy-out-stays-2 : tie.Need-shared-slice-copy-out-stays-2 Inv-loop μ-loop
+shared-slice-copy-out-stays-2 c = search needs
+
+add-stays-3 : tie.Need-add-stays-3 Inv-loop μ-loop
+add-stays-3 c = search needs
+
+mul-stays-3 : tie.Need-mul-stays-3 Inv-loop μ-loop
+mul-stays-3 c = search needs
+
+shared-slice-copy-out-stays-3 : tie.Need-shared-slice-copy-out-stays-3 Inv-loop μ-loop
+shared-slice-copy-out-stays-3 c = search needs
+
+stays-requires : tie.Need-stays-requires Inv-loop μ-loop
+stays-requires c κs = search needs
+
+mul-t-2 : tie.Need-mul-t-2 Inv-loop μ-loop
+mul-t-2 c = search needs
+
+array-set-from-t-2 : tie.Need-array-set-from-t-2 Inv-loop μ-loop
+array-set-from-t-2 c = search needs
+
+add-s-2 : tie.Need-add-s-2 Inv-loop μ-loop
+add-s-2 c = search needs
+
+loop-less-2 : tie.Need-loop-less-2 Inv-loop μ-loop
+loop-less-2 c = search needs
+
+loop-again-2 : tie.Need-loop-again-2 Inv-loop μ-loop
+loop-again-2 c =
+    let st = c .before .before .before .before .before .before .before .before .before .before .before .before .before in
+    let l = c .before .before .before .before .before .before .before .before .before .before .before .loop in
+    let n = st .args .n in
+    let f = st .args .frame .now in
+    let T = take (l .m) (l .taken) in
+    let rest = rowsFrom 4 (n - (l .s + 1)) f (4 * (l .s + 1)) in
+    let k0 = getD f (4 * l .s) (pos 0) in
+    let k1 = getD f (4 * l .s + 1) (pos 0) in
+    let k2 = getD f (4 * l .s + 2) (pos 0) in
+    let k3 = getD f (4 * l .s + 3) (pos 0) in
+    let g = k0 ∷ k1 ∷ k2 ∷ k3 ∷ [] in
+    let was = getD (l .t) (l .s) blank in
+    let f0 : SFits w32 k0 = search needs in
+    let f1 : SFits w32 k1 = search needs in
+    let f2 : SFits w32 k2 = search needs in
+    let f3 : SFits w32 k3 = search needs in
+    let f4 : SFits w32 (was .id .0) = search needs in
+    let h : l .s < n = c .before .before .before .before .before .before .before .before .before .before .loop-test .taken in
+    let ht : l .s < length (l .t) = omega (arith, l .inv .3, st .pre .0) in
+    let rows : rowsFrom 4 (n - l .s) f (4 * l .s) ≡ g ∷ rest = rows-next 4 n (l .s) f h ∙ ap {B = List (List ℤ)} (λ r. r ∷ rest) (row-of-four f (4 * l .s)) in
+    let plain : (plainRow g && plainRows rest) ≡ true = sym (ap plainRows rows) ∙ l .inv .5 in
+    let begin : c .before .before .before .before .before .begins .result ≡ begun (fate k0 (was .id .0)) = rw (toZ-ofZ w32 k0 f0, toZ-ofZ w32 (was .id .0) f4) at (c .before .before .before .before .before .begins .ensures) in
+    let j = freeId T (l .k) in
+    let no : begun (fate k0 (was .id .0)) ≡ false = sym begin ∙ c .before .before .before .before .if1 .left in
+    let w : c .stays .result ≡ stayed (eqZ k0 (pos 0)) was k1 k2 k3 = rw (toZ-ofZ w32 k0 f0, toZ-ofZ w32 k1 f1, toZ-ofZ w32 k2 f2, toZ-ofZ w32 k3 f3) at (c .stays .ensures) in
+    let W = c .stays .result in
+    let same : Same (takenAfter (fate k0 (was .id .0)) j T) T = rw (stayed-taken (fate k0 (was .id .0)) j T no) (λ i. refl) in
+    let count : counterAfter (fate k0 (was .id .0)) j (l .k) ≡ l .k = stayed-counter (fate k0 (was .id .0)) j (l .k) no in
+    let slot : slotOf W ≡ _ = ap slotOf w ∙ stayed-slot was k1 k2 k3 j k0 no (and-left (plainRow g) (plainRows rest) plain) in (
+      omega arith,
+      omega (arith, l .inv .1),
+      l .inv .2,
+      length-set (l .t) (l .s) W ∙ l .inv .3,
+      l .inv .4,
+      and-right (plainRow g) (plainRows rest) plain,
+      l .inv .6 ∙ ap (λ r. tableOf (take (l .s) (l .t)) ++ tableFrom T (l .k) r (tableOf (drop (l .s) (l .t)))) rows ∙ table-turn T (l .k) (l .t) (l .s) ht g rest W T (l .k) slot same count,
+      l .inv .7 ∙ ap (λ r. counterFrom T (l .k) r (tableOf (drop (l .s) (l .t)))) rows ∙ counter-turn T (l .k) (l .t) (l .s) ht g rest W T (l .k) same count,
+    )
+
+returns : tie.Need-returns Inv-loop μ-loop
+returns c =
+    let l = c .before .loop in
+    let a = c .before .before .before .args in
+    let f = a .frame .now in
+    let T = take (l .m) (l .taken) in
+    let z : a .n - l .s ≡ 0 = omega arith in
+    let none : rowsFrom 4 (a .n - l .s) f (4 * l .s) ≡ [] = ap (λ m. rowsFrom 4 m f (4 * l .s)) z ∙ rows-none 4 f (4 * l .s) in (
+      sym (l .inv .6 ∙ ap (λ r. tableOf (take (l .s) (l .t)) ++ tableFrom T (l .k) r (tableOf (drop (l .s) (l .t)))) none
+          ∙ sym (map-append slotOf (take (l .s) (l .t)) (drop (l .s) (l .t))) ∙ ap tableOf (take-append-drop (l .s) (l .t))),
+      sym (l .inv .7 ∙ ap (λ r. counterFrom T (l .k) r (tableOf (drop (l .s) (l .t)))) none),
+    )
+
+pub plan-frame-spec : {M : Type 1} → statement M
+plan-frame-spec =
+    tie.close
+    (tie.spec
+    Inv-loop
+    μ-loop
+    ids-of-requires
+    loop-holds
+    mul-i
+    mul-kind
+    shared-slice-copy-out-kind
+    mul-was
+    array-copy-out-was
+    begins-requires
+    array-share-prefix-taken
+    slice-aggregate-choose
+    choose-requires
+    id-of-requires
+    add-contact
+    mul-contact
+    shared-slice-copy-out-contact
+    add-contact-2
+    mul-contact-2
+    shared-slice-copy-out-contact-2
+    add-contact-3
+    mul-contact-3
+    shared-slice-copy-out-contact-3
+    contact-requires
+    mul-t
+    array-set-from-t
+    mul-taken
+    array-set-from-taken
+    add-m
+    after-requires
+    add-s
+    loop-less
+    loop-again
+    add-stays
+    mul-stays
+    shared-slice-copy-out-stays
+    add-stays-2
+    mul-stays-2
+    shared-slice-copy-out-stays-2
+    add-stays-3
+    mul-stays-3
+    shared-slice-copy-out-stays-3
+    stays-requires
+    mul-t-2
+    array-set-from-t-2
+    add-s-2
+    loop-less-2
+    loop-again-2
+    returns)

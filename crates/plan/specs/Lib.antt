@@ -1,0 +1,2 @@
+-- What becomes of one slot.
+pub mod Row

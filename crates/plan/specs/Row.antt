@@ -1,0 +1,43 @@
+-- What becomes of one slot, as the code's records. Cited by the contracts here. Assumes nothing.
+use mathlib.Core.Bool.{Bool, true, false, _&&_, _||_}
+use mathlib.Core.List.{List, [], _∷_}
+use lib.IntN.{ℤ, pos}
+use lib.Signed.{leZ}
+use Rattle.model.specs.Numbers.{eqZ, minusOne}
+use Rattle.model.specs.Table.{numbersOf}
+use Rattle.model.specs.Records.{bitsOf}
+use Rattle.model.specs.Frame.{kindOf, Fate, none, goesOn, begins}
+use Rattle.panel.specs.declared.Slot.{Slot}
+
+-- A contact begins.
+abbrev pub begun : Fate → Bool
+begun none = false
+begun goesOn = false
+begun begins = true
+
+-- A slot with an id and the bits of its row's numbers: no good row has a negative one.
+abbrev pub held : ℤ → ℤ → ℤ → ℤ → Slot
+held i x y p = record { id = record { 0 = i }; x = bitsOf x; y = bitsOf y; pressure = bitsOf p }
+
+-- A slot without a contact: its other numbers stay.
+abbrev pub lifted : Slot → Slot
+lifted was = record { id = record { 0 = minusOne }; x = was .x; y = was .y; pressure = was .pressure }
+
+-- A slot in which no contact begins, by whether its kind is 0.
+abbrev pub stayed : Bool → Slot → ℤ → ℤ → ℤ → Slot
+stayed true was x y p = lifted was
+stayed false was x y p = held (was .id .0) x y p
+
+-- No number is negative.
+abbrev pub unsigned : List ℤ → Bool
+unsigned [] = true
+unsigned (v ∷ vs) = leZ (pos 0) v && unsigned vs
+
+-- Kind 0, or no number is negative: all that a plan asks of its rows, whatever the setup.
+abbrev pub plainRow : List ℤ → Bool
+plainRow g = eqZ (kindOf g) (pos 0) || unsigned (numbersOf g)
+
+-- All rows are so.
+abbrev pub plainRows : List (List ℤ) → Bool
+plainRows [] = true
+plainRows (g ∷ fr) = plainRow g && plainRows fr

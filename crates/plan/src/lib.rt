@@ -1,0 +1,163 @@
+// The table and the counter that a frame makes: which id a beginning contact takes, and every slot's new numbers. The writer stands on it.
+ghost use mathlib.Core.Path.{_≡_};
+ghost use mathlib.Core.Bool.{true};
+ghost use Prim.Native.Nat.{_*_, _<_, _≤_};
+ghost use lib.IntN.{pos};
+ghost use lib.ListN.{length, take};
+ghost use Rattle.model.specs.Numbers.{eqZ};
+ghost use Rattle.model.specs.Table.{ids, unheld};
+ghost use Rattle.model.specs.Frame.{fate, freeId, next, rowsFrom, newTable, newCounter};
+ghost use Rattle.panel.specs.Seen.{tableOf};
+ghost use Rattle.plan.specs.Row.{begun, held, stayed, plainRows};
+use panel::RECORDS;
+use panel::Slot;
+use panel::TrackingId;
+
+// The most ids that are taken in a frame: every old one, and one given to each slot.
+const TAKEN: usize = 32;
+
+// Whether v is none of the taken ids.
+fn absent(taken: &[i32], v: i32) -> bool
+    ensures { λ r. ⌜ r ≡ unheld v (now (taken .entry)) ⌝ }
+{
+    let mut j: usize = 0;
+    while j < taken.len() {
+        if panel::same(v, taken[j]) {
+            return false;
+        }
+        j += 1;
+    }
+    true
+}
+
+fn id_of(k: u32) -> i32
+    requires { ⌜ k < 65536 ⌝ }
+    ensures { λ r. ⌜ r ≡ pos k ⌝ }
+{
+    k as i32
+}
+
+fn after(k: u32) -> u32
+    requires { ⌜ k < 65536 ⌝ }
+    ensures { λ r. ⌜ r ≡ next k ⌝ }
+{
+    (k + 1) % 65536
+}
+
+// The first number from `from` on, wrapping, that is not taken: as many tries as ids can be taken are enough.
+fn choose(taken: &[i32], from: u32) -> u32
+    requires { ⌜ (length (now taken) ≤ 32) × (from < 65536) ⌝ }
+    ensures { λ r. ⌜ (r < 65536) × (r ≡ freeId (now (taken .entry)) from) ⌝ }
+{
+    let mut k = from;
+    let mut tries = TAKEN;
+    while 0 < tries {
+        if absent(taken, id_of(k)) {
+            return k;
+        }
+        k = after(k);
+        tries -= 1;
+    }
+    k
+}
+
+// The ids of a table, with room for those that a frame gives.
+fn ids_of(t: [Slot; RECORDS]) -> [i32; TAKEN]
+    ensures { λ r. ⌜ take 16 r ≡ ids (tableOf t) ⌝ }
+{
+    let mut l = [0; TAKEN];
+    let mut i: usize = 0;
+    while i < RECORDS {
+        let s = t[i];
+        let q = s.id;
+        let v = q.0;
+        l[i] = v;
+        i += 1;
+    }
+    l
+}
+
+// Whether a contact begins in a slot that has this id.
+fn begins(kind: i32, id: i32) -> bool
+    ensures { λ r. ⌜ r ≡ begun (fate kind id) ⌝ }
+{
+    if panel::same(kind, 0) {
+        return false;
+    }
+    if panel::same(kind, 2) {
+        return true;
+    }
+    panel::same(id, -1)
+}
+
+// A slot that has a contact: its id and the frame's numbers, which are not negative, so that their bits are they themselves.
+fn contact(id: i32, x: i32, y: i32, pressure: i32) -> Slot
+    ensures { λ r. ⌜ r ≡ held id x y pressure ⌝ }
+{
+    let a = records::bits_of(x);
+    let b = records::bits_of(y);
+    let c = records::bits_of(pressure);
+    Slot {
+        id: TrackingId(id),
+        x: a,
+        y: b,
+        pressure: c,
+    }
+}
+
+// A slot after its row, where no contact begins. A lifted contact's numbers stay: the next one may land on them.
+fn stays(kind: i32, was: Slot, x: i32, y: i32, pressure: i32) -> Slot
+    ensures { λ r. ⌜ r ≡ stayed (eqZ kind (pos 0)) was x y pressure ⌝ }
+{
+    if panel::same(kind, 0) {
+        return Slot {
+            id: TrackingId(TrackingId::UNUSED),
+            x: was.x,
+            y: was.y,
+            pressure: was.pressure,
+        };
+    }
+    let id = was.id;
+    contact(id.0, x, y, pressure)
+}
+
+pub struct Planned {
+    pub table: [Slot; RECORDS],
+    pub counter: u32,
+}
+
+// The table and the counter after n good rows. An ending or replaced contact's id stays taken to the end of the frame.
+pub fn plan_frame(n: usize, old: [Slot; RECORDS], counter: u32, frame: &[i32]) -> Planned
+    requires { ⌜ (n ≤ 16) × (counter < 65536) × (length (now frame) ≡ 4 * n) × (plainRows (rowsFrom 4 n (now frame) 0) ≡ true) ⌝ }
+    ensures { λ r. ⌜ (tableOf (r .table) ≡ newTable counter (rowsFrom 4 n (now (frame .entry)) 0) (tableOf old)) × (r .counter ≡ newCounter counter (rowsFrom 4 n (now (frame .entry)) 0) (tableOf old)) ⌝ }
+{
+    let mut taken = ids_of(old);
+    let mut m = RECORDS;
+    let mut t = old;
+    let mut k = counter;
+    let mut s: usize = 0;
+    while s < n {
+        let i = 4 * s;
+        let kind = frame[i];
+        let was = t[s];
+        let id = was.id;
+        if begins(kind, id.0) {
+            let j = choose(&taken[..m], k);
+            let v = id_of(j);
+            let w = contact(v, frame[i + 1], frame[i + 2], frame[i + 3]);
+            t[s] = w;
+            taken[m] = v;
+            m += 1;
+            k = after(j);
+            s += 1;
+        } else {
+            let w = stays(kind, was, frame[i + 1], frame[i + 2], frame[i + 3]);
+            t[s] = w;
+            s += 1;
+        }
+    }
+    Planned {
+        table: t,
+        counter: k,
+    }
+}

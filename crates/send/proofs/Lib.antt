@@ -1,0 +1,2 @@
+-- The laws behind the sending.
+pub mod Parts

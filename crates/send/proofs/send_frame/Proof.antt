@@ -1,0 +1,278 @@
+-- `send::send_frame` writes the current slot's changes, those of the others and the report. The loop has written the slots whose bits m no longer has; what is left to lay over b from `end` on is m's, and the report. Assumes nothing.
+use borrow.Author.Needs.{needs}
+use mathlib.Core.Path.{_≡_, refl, sym, ap, ap₂, _∙_}
+use mathlib.Core.List.{List, [], _∷_, _++_, append-assoc}
+use Prim.Native.Nat.{ℕ, _<_, _≤_, _+_, _-_, _%_}
+use native.Mathlib.Omega.{arith}
+use lib.Bits.{bitAnd, and-le-r}
+use lib.Count.{trailingZeros}
+use lib.ListN.{length, length-append, length-drop, take, drop, getD}
+use Rattle.model.specs.Records.{recordBytes, lay}
+use Rattle.model.specs.Sending.{Sent, sendReport, changes, lastOpened}
+use Rattle.model.specs.Order.{ofMask}
+use Rattle.model.proofs.Follow.{last-append, last-changes}
+use Rattle.model.proofs.Order.{mask-none, mask-next, trailing-below}
+use Rattle.panel.specs.declared.Slot.{Slot}
+use Rattle.panel.specs.Seen.{slotOf, blank}
+use Rattle.records.specs.Seen.{over}
+use Rattle.records.proofs.Over.{record-length, rest-all, lay-put, turn-start, turn-room, turn-length, turn-more, turn-lay}
+use Rattle.send.specs.Sent.{bytesSent, openedAt, sentBy}
+use Rattle.send.proofs.Parts.{sent-append, report-bytes}
+use Rattle.send.proofs.send_frame.Statement.{statement}
+use Rattle.send.proofs.send_frame.Tie as tie
+
+-- the slots that m names, and the report
+abbrev left : List Slot → List Slot → ℕ → List ℕ
+left old new m = bytesSent (ofMask 16 m (openedAt old new) ++ sendReport ∷ [])
+
+abbrev Inv-loop : tie.InvT-loop
+Inv-loop b₀ at others old new c first end₀ m₀ last₀ b end m last =
+    (m < 65536) × (length b ≡ length b₀) × (end + length (left old new m) ≤ length b)
+    × (lastOpened last₀ (ofMask 16 m₀ (openedAt old new)) ≡ lastOpened last (ofMask 16 m (openedAt old new)))
+    × (lay end₀ (left old new m₀) b₀ ≡ lay end (left old new m) b)
+
+abbrev μ-loop : tie.MeasureT-loop
+μ-loop b₀ at others old new c first end₀ m₀ last₀ b end m last = m
+
+-- ---- the current slot's changes, and then all that is left
+
+abbrev current : tie.Start Inv-loop μ-loop → List Sent
+current s = changes 0 (slotOf (getD (s .args .t3) (s .args .current .0) blank)) (slotOf (getD (s .args .t4) (s .args .current .0) blank))
+
+abbrev A : tie.Start Inv-loop μ-loop → List ℕ
+A s = bytesSent (current s)
+
+abbrev R : tie.Start Inv-loop μ-loop → List ℕ
+R s = left (s .args .t3) (s .args .t4) (s .args .others)
+
+whole : (s : tie.Start Inv-loop μ-loop) → bytesSent (sentBy (s .args .t3) (s .args .t4) (s .args .others) (s .args .current .0) ++ sendReport ∷ []) ≡ A s ++ R s
+whole s =
+    let others = ofMask 16 (s .args .others) (openedAt (s .args .t3) (s .args .t4)) in
+    ap bytesSent (append-assoc (current s) others (sendReport ∷ [])) ∙ sent-append (current s) (others ++ sendReport ∷ [])
+
+room : (s : tie.Start Inv-loop μ-loop) → s .args .at + length (A s ++ R s) ≤ length (s .args .b .now)
+room s = rw (whole s) at (s .pre .1)
+
+-- ---- a turn: the lowest set bit's slot, and the other bits
+
+nonzero : (c : tie.In-loop Inv-loop μ-loop) → 0 < c .before .loop .m
+nonzero c = search needs
+
+abbrev parts : tie.In-loop Inv-loop μ-loop → ℕ → List Sent
+parts c = openedAt (c .before .before .before .before .before .before .before .before .before .args .t3) (c .before .before .before .before .before .before .before .before .before .args .t4)
+
+abbrev z : tie.In-loop Inv-loop μ-loop → ℕ
+z c = trailingZeros 16 (c .before .loop .m)
+
+abbrev rest : tie.In-loop Inv-loop μ-loop → List Sent
+rest c = ofMask 16 (bitAnd (c .before .loop .m) (c .before .loop .m - 1)) (parts c)
+
+-- its bytes, and those of what is left then
+abbrev B : tie.In-loop Inv-loop μ-loop → List ℕ
+B c = bytesSent (parts c (z c))
+
+abbrev L : tie.In-loop Inv-loop μ-loop → List ℕ
+L c = bytesSent (rest c ++ sendReport ∷ [])
+
+split : (c : tie.In-loop Inv-loop μ-loop) → ofMask 16 (c .before .loop .m) (parts c) ≡ parts c (z c) ++ rest c
+split c = mask-next 16 (c .before .loop .m) (parts c) (nonzero c) (c .before .loop .inv .0)
+
+split-bytes : (c : tie.In-loop Inv-loop μ-loop) → bytesSent (ofMask 16 (c .before .loop .m) (parts c) ++ sendReport ∷ []) ≡ B c ++ L c
+split-bytes c =
+    ap (λ xs. bytesSent (xs ++ sendReport ∷ [])) (split c) ∙ ap bytesSent (append-assoc (parts c (z c)) (rest c) (sendReport ∷ []))
+    ∙ sent-append (parts c (z c)) (rest c ++ sendReport ∷ [])
+
+more-room : (c : tie.In-loop Inv-loop μ-loop) → c .before .loop .end + length (B c ++ L c) ≤ length (c .before .loop .b)
+more-room c = rw (split-bytes c) at (c .before .loop .inv .2)
+
+place : (c : tie.In-loop Inv-loop μ-loop) → z c % 16 ≡ z c
+place c = omega (arith, trailing-below 16 (c .before .loop .m) (nonzero c) (c .before .loop .inv .0))
+
+-- ---- after the loop: the report
+
+none : (c : tie.After-loop Inv-loop μ-loop) → ofMask 16 (c .before .loop .m) (openedAt (c .before .before .before .before .before .before .before .before .before .args .t3) (c .before .before .before .before .before .before .before .before .before .args .t4)) ≡ []
+none c =
+    let f = openedAt (c .before .before .before .before .before .before .before .before .before .args .t3) (c .before .before .before .before .before .before .before .before .before .args .t4) in
+    ap (λ m. ofMask 16 m f) (c .loop-test .left) ∙ mask-none 16 f
+
+report-left : (c : tie.After-loop Inv-loop μ-loop) → left (c .before .before .before .before .before .before .before .before .before .args .t3) (c .before .before .before .before .before .before .before .before .before .args .t4) (c .before .loop .m) ≡ recordBytes 0 0 0
+report-left c = ap (λ xs. bytesSent (xs ++ sendReport ∷ [])) (none c) ∙ report-bytes
+
+report-room : (c : tie.After-loop Inv-loop μ-loop) → c .before .loop .end + 8 ≤ length (c .before .loop .b)
+report-room c = omega (arith, ap length (report-left c), record-length 0 0 0, c .before .loop .inv .2)
+
+mul-o : tie.Need-mul-o Inv-loop μ-loop
+mul-o c = search needs
+
+array-copy-out-o : tie.Need-array-copy-out-o Inv-loop μ-loop
+array-copy-out-o c = search needs
+
+mul-v : tie.Need-mul-v Inv-loop μ-loop
+mul-v c = search needs
+
+array-copy-out-v : tie.Need-array-copy-out-v Inv-loop μ-loop
+array-copy-out-v c = search needs
+
+sub-put-changes : tie.Need-sub-put-changes Inv-loop μ-loop
+sub-put-changes c =
+    let s = c .before .before .before in
+    turn-start (s .args .at) (length (A s)) (A s) (R s) (s .args .b .now) [] refl (room s)
+
+part-put-changes-start : tie.Need-part-put-changes-start Inv-loop μ-loop
+part-put-changes-start c = sub-put-changes c
+
+part-put-changes-end : tie.Need-part-put-changes-end Inv-loop μ-loop
+part-put-changes-end c = search needs
+
+put-changes-requires : tie.Need-put-changes-requires Inv-loop μ-loop
+put-changes-requires c κs =
+    let s = c .before .before .before .before in
+    turn-room (s .args .at) (length (A s)) (A s) (R s) (s .args .b .now) [] refl (room s)
+
+add-end : tie.Need-add-end Inv-loop μ-loop
+add-end c =
+    let s = c .before .before .before .before .before .before .before in
+    let p = c .before .before .put-changes in
+    omega (arith, p .ensures .0, length-append (A s) (R s), room s, s .good)
+
+loop-holds : tie.Need-loop-holds Inv-loop μ-loop
+loop-holds c =
+    let s = c .before .before .before .before .before .before .before in
+    let p = c .before .before .put-changes in
+    (search needs, refl, turn-more (s .args .at) (p .result) (A s) (R s) (s .args .b .now) (p .last .0) (p .ensures .0) (room s) (p .ensures .1), refl, refl)
+
+cast-s : tie.Need-cast-s Inv-loop μ-loop
+cast-s c = search needs
+
+sub-m : tie.Need-sub-m Inv-loop μ-loop
+sub-m c = search needs
+
+sub-put-opened : tie.Need-sub-put-opened Inv-loop μ-loop
+sub-put-opened c = omega (arith, c .before .loop .inv .2)
+
+part-put-opened-start : tie.Need-part-put-opened-start Inv-loop μ-loop
+part-put-opened-start c = omega (arith, c .before .loop .inv .2)
+
+part-put-opened-end : tie.Need-part-put-opened-end Inv-loop μ-loop
+part-put-opened-end c = search needs
+
+mul-put-opened : tie.Need-mul-put-opened Inv-loop μ-loop
+mul-put-opened c = search needs
+
+array-copy-out-put-opened : tie.Need-array-copy-out-put-opened Inv-loop μ-loop
+array-copy-out-put-opened c = search needs
+
+mul-put-opened-2 : tie.Need-mul-put-opened-2 Inv-loop μ-loop
+mul-put-opened-2 c = search needs
+
+array-copy-out-put-opened-2 : tie.Need-array-copy-out-put-opened-2 Inv-loop μ-loop
+array-copy-out-put-opened-2 c = search needs
+
+put-opened-requires : tie.Need-put-opened-requires Inv-loop μ-loop
+put-opened-requires c κs =
+    let i = c .before .before .before in
+    let l = i .before .loop in
+    rw (place i) (turn-room (l .end) (length (B i)) (B i) (L i) (l .b) [] refl (more-room i))
+
+add-end-2 : tie.Need-add-end-2 Inv-loop μ-loop
+add-end-2 c =
+    let i = c .before .before .before .before .before .before in
+    let l = i .before .loop in
+    let s = i .before .before .before .before .before .before .before .before .before in
+    let q = i .before .before .before .before .put-changes in
+    let p = c .before .before .put-opened in
+    let e : p .result ≡ length (B i) = rw (place i) at (p .ensures .0) in
+    let n = turn-length (s .args .at) (q .result) (A s) (R s) (s .args .b .now) (q .last .0) (q .ensures .0) (room s) (q .ensures .1) in
+    omega (arith, length-append (B i) (L i), more-room i, l .inv .1, n, s .good)
+
+loop-less : tie.Need-loop-less Inv-loop μ-loop
+loop-less c =
+    let i = c .before .before .before .before .before .before in
+    omega (arith, and-le-r (i .before .loop .m) (i .before .loop .m - 1), nonzero i)
+
+loop-again : tie.Need-loop-again Inv-loop μ-loop
+loop-again c =
+    let i = c .before .before .before .before .before .before in
+    let l = i .before .loop in
+    let a = i .before .before .before .before .before .before .before .before .before .args in
+    let p = c .before .before .put-opened in
+    let e : p .result ≡ length (B i) = rw (place i) at (p .ensures .0) in
+    let w : p .last .0 ≡ over (B i) (take (length (l .b) - l .end) (drop (l .end) (l .b))) = rw (place i) at (p .ensures .1) in (
+      omega (arith, and-le-r (l .m) (l .m - 1), l .inv .0),
+      turn-length (l .end) (p .result) (B i) (L i) (l .b) (p .last .0) e (more-room i) w ∙ l .inv .1,
+      turn-more (l .end) (p .result) (B i) (L i) (l .b) (p .last .0) e (more-room i) w,
+      l .inv .3 ∙ ap (lastOpened (l .last)) (split i) ∙ last-append (l .last) (parts i (z i)) (rest i)
+          ∙ ap (λ k. lastOpened k (rest i)) (last-changes (z i) 0 (slotOf (getD (a .t3) (z i) blank)) (slotOf (getD (a .t4) (z i) blank)) ∙ sym (place i)),
+      l .inv .4 ∙ ap (λ bs. lay (l .end) bs (l .b)) (split-bytes i) ∙ turn-lay (l .end) (p .result) (B i) (L i) (l .b) (p .last .0) e (more-room i) w,
+    )
+
+sub-put : tie.Need-sub-put Inv-loop μ-loop
+sub-put c = omega (arith, report-room c)
+
+part-put-start : tie.Need-part-put-start Inv-loop μ-loop
+part-put-start c = omega (arith, report-room c)
+
+part-put-end : tie.Need-part-put-end Inv-loop μ-loop
+part-put-end c = search needs
+
+put-requires : tie.Need-put-requires Inv-loop μ-loop
+put-requires c κs =
+    let i = c .before in
+    let l = i .before .loop in
+    rw (rest-all (l .end) (l .b)) (omega (arith, length-drop (l .end) (l .b), report-room i))
+
+same-length : tie.Need-same-length Inv-loop μ-loop
+same-length c = search needs
+
+returns : tie.Need-returns Inv-loop μ-loop
+returns c =
+    let i = c .before .before .before .before in
+    let l = i .before .loop in
+    let s = i .before .before .before .before .before .before .before .before .before in
+    let q = i .before .before .before .before .put-changes in
+    let p = c .before .before .put in
+    let others = ofMask 16 (s .args .others) (openedAt (s .args .t3) (s .args .t4)) in
+    let o = slotOf (getD (s .args .t3) (s .args .current .0) blank) in
+    let v = slotOf (getD (s .args .t4) (s .args .current .0) blank) in
+    let inside : l .end ≤ length (l .b) = omega (arith, report-room i) in
+    rw (whole s) (
+      sym (last-append (s .args .current .0) (current s) others ∙ ap (λ k. lastOpened k others) (last-changes (s .args .current .0) 0 o v) ∙ l .inv .3 ∙ ap (lastOpened (l .last)) (none i)),
+      lay-put (l .end) (recordBytes 0 0 0) (l .b) (p .last .0) inside (p .ensures) ∙ ap (λ bs. lay (l .end) bs (l .b)) (sym (report-left i)) ∙ sym (l .inv .4)
+          ∙ sym (turn-lay (s .args .at) (q .result) (A s) (R s) (s .args .b .now) (q .last .0) (q .ensures .0) (room s) (q .ensures .1)),
+    )
+
+pub send-frame-spec : {M : Type 1} → statement M
+send-frame-spec =
+    tie.close
+    (tie.spec
+    Inv-loop
+    μ-loop
+    mul-o
+    array-copy-out-o
+    mul-v
+    array-copy-out-v
+    sub-put-changes
+    part-put-changes-start
+    part-put-changes-end
+    put-changes-requires
+    add-end
+    loop-holds
+    cast-s
+    sub-m
+    sub-put-opened
+    part-put-opened-start
+    part-put-opened-end
+    mul-put-opened
+    array-copy-out-put-opened
+    mul-put-opened-2
+    array-copy-out-put-opened-2
+    put-opened-requires
+    add-end-2
+    loop-less
+    loop-again
+    sub-put
+    part-put-start
+    part-put-end
+    put-requires
+    same-length
+    returns)

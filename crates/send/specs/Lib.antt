@@ -1,0 +1,2 @@
+-- What is sent, as bytes.
+pub mod Sent

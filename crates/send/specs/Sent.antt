@@ -1,0 +1,38 @@
+-- What the writer puts into the buffer, slot by slot. Cited by the contracts here and by the writer. Assumes nothing.
+use mathlib.Core.Bool.{Bool, true, false}
+use mathlib.Core.List.{List, [], _∷_, _++_, map}
+use Prim.Native.Nat.{ℕ}
+use lib.Dec.{eqb}
+use lib.ListN.{getD}
+use Rattle.model.specs.Panel.{fieldCodes}
+use Rattle.model.specs.Records.{recordBytes, bytesOf}
+use Rattle.model.specs.Sending as M
+use Rattle.model.specs.Sending.{sendSlot, changes, eventOf}
+use Rattle.model.specs.Order.{ofMask}
+use Rattle.panel.specs.declared.Slot.{Slot}
+use Rattle.panel.specs.Seen.{slotOf, fieldsOf, blank}
+
+-- The codes of a slot's fields, which are those of every setup.
+abbrev pub codes : List ℕ
+codes = fieldCodes (fieldsOf (record { n = 0; x = 0; y = 0; pressure = 0 }))
+
+-- The bytes of what is sent.
+unfoldable pub bytesSent : List M.Sent → List ℕ
+bytesSent xs = bytesOf (map (eventOf codes) xs)
+
+-- Nothing, where a test passes.
+abbrev pub noneIf : Bool → List ℕ → List ℕ
+noneIf true l = []
+noneIf false l = l
+
+-- A number's record, unless the number is the same; an id is given by its bits.
+abbrev pub numberBytes : ℕ → ℕ → ℕ → List ℕ
+numberBytes code old new = noneIf (eqb old new) (recordBytes 3 code new)
+
+-- Slot j's changes, opened by its number.
+abbrev pub openedAt : List Slot → List Slot → ℕ → List M.Sent
+openedAt old new j = sendSlot j ∷ changes 0 (slotOf (getD old j blank)) (slotOf (getD new j blank))
+
+-- The current slot's changes, and then those of the slots that a number names.
+abbrev pub sentBy : List Slot → List Slot → ℕ → ℕ → List M.Sent
+sentBy old new m c = changes 0 (slotOf (getD old c blank)) (slotOf (getD new c blank)) ++ ofMask 16 m (openedAt old new)

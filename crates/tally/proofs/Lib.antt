@@ -1,0 +1,2 @@
+-- The laws behind the tally.
+pub mod Mask

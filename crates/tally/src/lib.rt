@@ -1,0 +1,81 @@
+// What a frame changes: the changed slots as one number, bit s for slot s, and how many numbers and slots. The writer stands on it.
+ghost use mathlib.Core.Path.{_≡_};
+ghost use Prim.Native.Nat.{_*_, _-_, _^_, _<_, _≤_};
+ghost use lib.Count.{ones as onesOf};
+ghost use lib.Dec.{eqb};
+ghost use Rattle.model.specs.Numbers.{eqZ};
+ghost use Rattle.model.specs.Sending.{oneUnless, sameSlot, changedIn, changedNumbers, changedMask};
+ghost use Rattle.panel.specs.Seen.{slotOf, tableOf};
+use panel::RECORDS;
+use panel::Slot;
+
+fn unlike(a: u32, b: u32) -> u32
+    ensures { λ r. ⌜ (r ≤ 1) × (r ≡ oneUnless (eqb a b)) ⌝ }
+{
+    if a == b {
+        return 0;
+    }
+    1
+}
+
+fn unlike_id(a: i32, b: i32) -> u32
+    ensures { λ r. ⌜ (r ≤ 1) × (r ≡ oneUnless (eqZ a b)) ⌝ }
+{
+    if panel::same(a, b) {
+        return 0;
+    }
+    1
+}
+
+// How many numbers of a slot differ.
+fn differ(a: Slot, b: Slot) -> u32
+    ensures { λ r. ⌜ (r ≤ 4) × (r ≡ changedIn (slotOf a) (slotOf b)) ⌝ }
+{
+    let i = a.id;
+    let j = b.id;
+    unlike_id(i.0, j.0) + (unlike(a.x, b.x) + (unlike(a.y, b.y) + unlike(a.pressure, b.pressure)))
+}
+
+// 1 for a slot that has a changed number.
+fn some(d: u32) -> u16
+    ensures { λ r. ⌜ (r ≤ 1) × (r ≡ oneUnless (eqb d 0)) ⌝ }
+{
+    unlike(d, 0) as u16
+}
+
+pub struct Tally {
+    pub mask: u16,
+    pub numbers: u32,
+}
+
+// The changed slots and numbers. From the last slot down, so that a slot's bit is shifted to its place by those before it.
+pub fn count_changes(old: [Slot; RECORDS], new: [Slot; RECORDS]) -> Tally
+    ensures { λ r. ⌜ (r .mask ≡ changedMask (tableOf old) (tableOf new)) × (r .numbers ≡ changedNumbers (tableOf old) (tableOf new)) × (r .numbers ≤ 64) ⌝ }
+{
+    let mut mask: u16 = 0;
+    let mut numbers: u32 = 0;
+    let mut s = RECORDS;
+    while 0 < s {
+        s -= 1;
+        let d = differ(old[s], new[s]);
+        mask = some(d) + 2 * mask;
+        numbers = d + numbers;
+    }
+    Tally { mask, numbers }
+}
+
+// The changed slots without the current one, which is sent first and not opened.
+pub fn without_current(mask: u16, current: usize, old: Slot, new: Slot) -> u16
+    requires { ⌜ (current < 16) × (oneUnless (sameSlot (slotOf old) (slotOf new)) * 2 ^ current ≤ mask) ⌝ }
+    ensures { λ r. ⌜ r ≡ mask - oneUnless (sameSlot (slotOf old) (slotOf new)) * 2 ^ current ⌝ }
+{
+    let d = differ(old, new);
+    mask - (some(d) << current)
+}
+
+// How many slots a changed-slot number names.
+pub fn ones(mask: u16) -> u32
+    ensures { λ r. ⌜ (r ≤ 16) × (r ≡ onesOf mask) ⌝ }
+{
+    u16::count_ones(mask)
+}

@@ -1,0 +1,8 @@
+-- What is seen of a writer's state and held again is the state, whatever it holds: so a refusal hands it back. Cited by the proofs here. Assumes nothing.
+use mathlib.Core.Path.{_≡_, ap}
+use Rattle.panel.proofs.Back.{table-back}
+use Rattle.writer.specs.declared.WriterState.{WriterState}
+use Rattle.writer.specs.Seen.{seen, held}
+
+pub state-back : (s : WriterState) → held (seen s) ≡ s
+state-back s = ap (λ t. record { setup = s .setup; table = t; current = s .current; counter = s .counter }) (table-back (s .table))

@@ -1,0 +1,84 @@
+-- What is sent, by the changed-slot number and as the model orders it, and the tally's parts of the event count. Cited by the proofs of `measure` and `accept`. Assumes nothing.
+use mathlib.Core.Path.{_≡_, refl, sym, ap, ap₂, _∙_}
+use mathlib.Core.List.{List, [], _∷_, _++_}
+use Prim.Native.Nat.{ℕ, zero, suc, _+_, _*_, _-_, _^_, _<_, _≤_}
+use native.Mathlib.Omega.{arith}
+use lib.ListN.{length, getD, length-map}
+use Rattle.model.specs.Records.{bytesOf}
+use Rattle.model.specs.Sending.{Sent, sendSlot, sendReport, changes, otherChanges, body, closed, sending, lastOpened, currentAfter, eventsSent, oneUnless, sameSlot, changedMask, fewest}
+use Rattle.model.specs.Order.{ofMask, othersMask}
+use Rattle.model.proofs.Count.{sending-count}
+use Rattle.model.proofs.Follow.{last-append}
+use Rattle.model.proofs.Order.{Opens, mask-others, mask-split}
+use Rattle.panel.specs.declared.Slot.{Slot}
+use Rattle.panel.specs.declared.Setup.{Setup}
+use Rattle.panel.specs.Seen.{slotOf, tableOf, panelSeen, blank}
+use Rattle.send.specs.Sent.{bytesSent, openedAt, sentBy}
+
+-- ---- a slot of the code's table
+
+pub slot-at : (t : List Slot) (s : ℕ) → s < length t → getD (tableOf t) s [] ≡ slotOf (getD t s blank)
+slot-at [] s h = absurd (omega arith)
+slot-at (x ∷ t) zero h = refl
+slot-at (x ∷ t) (suc s) h = slot-at t s (omega arith)
+
+module _ (old new : List Slot) (lo : length old ≡ 16) (ln : length new ≡ 16) (c : ℕ) (h : c < 16) where
+  -- ---- the current slot's bit
+
+  abbrev bit : ℕ
+  bit = oneUnless (sameSlot (slotOf (getD old c blank)) (slotOf (getD new c blank)))
+
+  split : changedMask (tableOf old) (tableOf new) ≡ othersMask c (tableOf old) (tableOf new) + bit * 2 ^ c
+  split =
+      mask-split c (tableOf old) (tableOf new) (simp length-map (omega arith)) (simp length-map (omega arith))
+      ∙ ap₂ (λ o v. othersMask c (tableOf old) (tableOf new) + oneUnless (sameSlot o v) * 2 ^ c) (slot-at old c (omega arith)) (slot-at new c (omega arith))
+
+  pub bit-in : (mask : ℕ) → mask ≡ changedMask (tableOf old) (tableOf new) → bit * 2 ^ c ≤ mask
+  bit-in mask e = omega (arith, split)
+
+  pub bit-out : (mask others : ℕ) → mask ≡ changedMask (tableOf old) (tableOf new) → others ≡ mask - bit * 2 ^ c → others ≡ othersMask c (tableOf old) (tableOf new)
+  bit-out mask others e f = omega (arith, split)
+
+  -- ---- what is sent
+
+  opens : Opens 0 (tableOf old) (tableOf new) (openedAt old new)
+  opens j g =
+      let z : 0 + j ≡ j = omega arith in
+      let j16 : j < 16 = omega (arith, length-map old slotOf) in
+      sym (ap {B = List Sent} (λ k. sendSlot k ∷ changes 0 (getD (tableOf old) j []) (getD (tableOf new) j [])) z
+      ∙ ap₂ {C = List Sent} (λ o v. sendSlot j ∷ changes 0 o v) (slot-at old j (omega arith)) (slot-at new j (omega arith)))
+
+  body-is : body c (tableOf old) (tableOf new) ≡ sentBy old new (othersMask c (tableOf old) (tableOf new)) c
+  body-is =
+      let w : length (tableOf old) ≡ 16 = length-map old slotOf ∙ lo in
+      let m = othersMask c (tableOf old) (tableOf new) in
+      ap₂ {C = List Sent} (λ x y. x ++ y) (ap₂ (changes 0) (slot-at old c (omega arith)) (slot-at new c (omega arith)))
+      (sym (ap (λ n. ofMask n m (openedAt old new)) (sym w) ∙ mask-others c 0 (tableOf old) (tableOf new) (openedAt old new) opens))
+
+closed-none : (xs : List Sent) → length (closed xs) ≡ 0 → closed xs ≡ []
+closed-none [] e = refl
+closed-none (x ∷ xs) e = absurd (omega arith)
+
+closed-some : (xs : List Sent) → (length (closed xs) ≡ 0 → ⊥) → closed xs ≡ xs ++ sendReport ∷ []
+closed-some [] n = absurd (n refl)
+closed-some (x ∷ xs) n = refl
+
+module _ (old new : List Slot) (c : ℕ) where
+  -- Nothing is sent, and the current slot stays.
+  pub none-sent : fewest c (tableOf old) (tableOf new) ≡ 0 → sending c (tableOf old) (tableOf new) ≡ []
+  none-sent e = closed-none (body c (tableOf old) (tableOf new)) (sending-count c (tableOf old) (tableOf new) ∙ e)
+
+  module _ (lo : length old ≡ 16) (ln : length new ≡ 16) (h : c < 16) (others : ℕ) (eo : others ≡ othersMask c (tableOf old) (tableOf new)) (n : fewest c (tableOf old) (tableOf new) ≡ 0 → ⊥) where
+    -- What the code sends is what the model sends.
+    pub some-sent : sending c (tableOf old) (tableOf new) ≡ sentBy old new others c ++ sendReport ∷ []
+    some-sent =
+        closed-some (body c (tableOf old) (tableOf new)) (λ e. n (sym (sending-count c (tableOf old) (tableOf new)) ∙ e))
+        ∙ ap {B = List Sent} (λ xs. xs ++ sendReport ∷ []) (body-is old new lo ln c h ∙ ap (λ m. sentBy old new m c) (sym eo))
+
+    pub some-last : lastOpened c (sentBy old new others c) ≡ currentAfter c (tableOf old) (tableOf new)
+    some-last = sym (ap (lastOpened c) some-sent ∙ last-append c (sentBy old new others c) (sendReport ∷ []))
+
+-- Its bytes are the model's events' bytes.
+pub bytes-are : (u : Setup) (c : ℕ) (old new : List Slot) → bytesOf (eventsSent (panelSeen u) c (tableOf old) (tableOf new)) ≡ bytesSent (sending c (tableOf old) (tableOf new))
+unfolding bytesSent
+bytes-are u c old new = refl

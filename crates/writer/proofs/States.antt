@@ -1,0 +1,53 @@
+-- When a writer's state is well formed, test by test, and what the other functions know of one that is. Cited by the proofs of `state_ok`, `accept` and `write`. Assumes nothing.
+use mathlib.Core.Path.{_≡_, refl, sym, ap, _∙_, subst}
+use mathlib.Core.Bool.{Bool, true, false, _&&_}
+use Prim.Native.Nat.{ℕ, _<_, _≤_}
+use native.Mathlib.Omega.{arith}
+use lib.Dec.{T, eqb, ltb}
+use lib.ListN.{length, length-map}
+use borrow.Author.Tests.{eq-eqb}
+use Rattle.model.specs.Panel.{base, setupGood}
+use Rattle.model.specs.Table.{idsDiffer, goodRecords}
+use Rattle.model.specs.States.{writerGood}
+use Rattle.model.proofs.Bools.{is-true}
+use Rattle.model.proofs.FreshSteady.{setup-slots}
+use Rattle.model.proofs.Calls.{WriterFacts, writer-state}
+use Rattle.panel.specs.declared.Setup.{Setup}
+use Rattle.panel.specs.Seen.{slotOf, tableOf, setupOf, fieldsOf}
+use Rattle.writer.specs.declared.WriterState.{WriterState}
+use Rattle.writer.specs.Seen.{seen}
+
+pub holds : {b : Bool} → b ≡ true → T b
+holds e = subst T (sym e) tt
+
+-- ---- the tests
+
+-- The whole test, from what its parts came to: the setup, the records, the ids, the current slot.
+pub good-by : (s : WriterState) → length (s .table) ≡ 16 → (a r d b : Bool)
+    → setupGood base (setupOf (s .setup)) ≡ a → goodRecords (fieldsOf (s .setup)) (s .setup .n) (tableOf (s .table)) ≡ r → idsDiffer (tableOf (s .table)) ≡ d → ltb (s .current .0) (s .setup .n) ≡ b
+    → writerGood base (seen s) ≡ (a && (r && d && b && ltb (s .counter) 65536))
+unfolding writerGood
+good-by s l a r d b ea er ed eb =
+    let e : eqb (length (tableOf (s .table))) 16 ≡ true = eq-eqb _ 16 (length-map (s .table) slotOf ∙ l) in
+    λ i. ea i && ((e i && er i) && ed i && eb i && ltb (s .counter) 65536)
+
+-- ---- what is known of a well-formed state
+
+pub setup-size : (u : Setup) → setupGood base (setupOf u) ≡ true → u .n ≤ 16
+setup-size u e = setup-slots base (setupOf u) (holds e) .1
+
+module _ (s : WriterState) (g : writerGood base (seen s) ≡ true) where
+  facts : WriterFacts base (seen s)
+  facts = writer-state base (seen s) (holds g)
+
+  pub good-setup : setupGood base (setupOf (s .setup)) ≡ true
+  good-setup = is-true (setupGood base (setupOf (s .setup))) (facts .setup)
+
+  pub good-size : s .setup .n ≤ 16
+  good-size = setup-slots base (setupOf (s .setup)) (facts .setup) .1
+
+  pub good-current : s .current .0 < 16
+  good-current = omega (arith, facts .writer .below, good-size)
+
+  pub good-counter : s .counter < 65536
+  good-counter = facts .writer .counts

@@ -1,0 +1,88 @@
+-- `writer::state_ok` tells whether a state is well formed, test by test. Assumes nothing.
+use mathlib.Core.Path.{_≡_, refl, sym, _∙_}
+use mathlib.Core.Bool.{Bool, true, false}
+use lib.Dec.{ltb}
+use lib.ListN.{length}
+use borrow.Author.Tests.{not-true, not-false, le-ltb, lt-ltb}
+use Rattle.model.specs.Panel.{base, setupGood}
+use Rattle.model.specs.Table.{idsDiffer, goodRecords}
+use Rattle.panel.specs.Seen.{tableOf, setupOf, fieldsOf}
+use Rattle.panel.proofs.Tables.{unmapped}
+use Rattle.writer.specs.declared.WriterState.{WriterState}
+use Rattle.writer.proofs.States.{good-by, setup-size}
+use borrow.Author.Needs.{needs}
+use Rattle.writer.proofs.state_ok.Statement.{statement}
+use Rattle.writer.proofs.state_ok.Tie as tie
+
+-- ---- what each test says of the state
+
+abbrev st : tie.Start → WriterState
+st s = record { setup = s .args .setup; table = s .args .table; current = s .args .current; counter = s .args .counter }
+
+sixteen : (s : tie.Start) → length (st s .table) ≡ 16
+sixteen s = search (needs, unmapped)
+
+abbrev ids : tie.Start → Bool
+ids s = idsDiffer (tableOf (st s .table))
+
+abbrev records : tie.Start → Bool
+records s = goodRecords (fieldsOf (st s .setup)) (st s .setup .n) (tableOf (st s .table))
+
+abbrev below : tie.Start → Bool
+below s = ltb (st s .current .0) (st s .setup .n)
+
+setup-is : (c : tie.Else1) → setupGood base (setupOf (st (c .before .before) .setup)) ≡ true
+setup-is c = sym (c .before .setup-ok .ensures) ∙ not-false (c .before .setup-ok .result) (c .if1 .left)
+
+records-are : (c : tie.Else2) → records (c .before .before .before .before) ≡ true
+records-are c = sym (c .before .table-ok .ensures) ∙ not-false (c .before .table-ok .result) (c .if2 .left)
+
+ids-are : (c : tie.Else3) → ids (c .before .before .before .before .before .before) ≡ true
+ids-are c = sym (c .before .ids-differ .ensures) ∙ not-false (c .before .ids-differ .result) (c .if3 .left)
+
+setup-ok-requires : tie.Need-setup-ok-requires
+setup-ok-requires c κs = search needs
+
+returns : tie.Need-returns
+returns c =
+    let s = c .before .before in
+    sym (good-by (st s) (sixteen s) false (records s) (ids s) (below s) (sym (c .before .setup-ok .ensures) ∙ not-true (c .before .setup-ok .result) (c .if1 .taken)) refl refl refl)
+
+table-ok-requires : tie.Need-table-ok-requires
+table-ok-requires c κs = setup-size (st (c .before .before) .setup) (setup-is c)
+
+returns-2 : tie.Need-returns-2
+returns-2 c =
+    let s = c .before .before .before .before in
+    sym (good-by (st s) (sixteen s) true false (ids s) (below s) (setup-is (c .before .before)) (sym (c .before .table-ok .ensures) ∙ not-true (c .before .table-ok .result) (c .if2 .taken)) refl refl)
+
+ids-differ-requires : tie.Need-ids-differ-requires
+ids-differ-requires c κs = search needs
+
+returns-3 : tie.Need-returns-3
+returns-3 c =
+    let s = c .before .before .before .before .before .before in
+    sym (good-by (st s) (sixteen s) true true false (below s) (setup-is (c .before .before .before .before)) (records-are (c .before .before)) (sym (c .before .ids-differ .ensures) ∙ not-true (c .before .ids-differ .result) (c .if3 .taken)) refl)
+
+returns-4 : tie.Need-returns-4
+returns-4 c =
+    let s = c .before .before .before .before .before .before .before .before .before in
+    sym (good-by (st s) (sixteen s) true true true false (setup-is (c .before .before .before .before .before .before .before)) (records-are (c .before .before .before .before .before)) (ids-are (c .before .before .before)) (le-ltb (st s .current .0) (st s .setup .n) (c .if4 .taken)))
+
+returns-5 : tie.Need-returns-5
+returns-5 c =
+    let s = c .before .before .before .before .before .before .before .before .before in
+    sym (good-by (st s) (sixteen s) true true true true (setup-is (c .before .before .before .before .before .before .before)) (records-are (c .before .before .before .before .before)) (ids-are (c .before .before .before)) (lt-ltb (st s .current .0) (st s .setup .n) (c .if4 .left)))
+
+pub state-ok-spec : {M : Type 1} → statement M
+state-ok-spec =
+    tie.close
+    (tie.spec
+    setup-ok-requires
+    returns
+    table-ok-requires
+    returns-2
+    ids-differ-requires
+    returns-3
+    returns-4
+    returns-5)

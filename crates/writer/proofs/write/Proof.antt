@@ -1,0 +1,129 @@
+-- `writer::write` answers as the model's call does, refusal by refusal. Assumes nothing.
+use mathlib.Core.Path.{_≡_, refl, sym, ap, _∙_}
+use mathlib.Core.Bool.{Bool, true, false}
+use mathlib.Core.List.{List}
+use Prim.Native.Nat.{ℕ, _*_}
+use native.Mathlib.Omega.{arith}
+use lib.IntN.{ℤ}
+use lib.ListN.{length}
+use borrow.Author.Tests.{eq-eqb, ne-eqb, not-true, not-false}
+use Rattle.model.specs.Panel.{base}
+use Rattle.model.specs.Frame.{sized, valuesGood}
+use Rattle.model.specs.States.{writerGood}
+use Rattle.model.specs.Calls as C
+use Rattle.model.specs.Calls.{needOf, roomFor}
+use Rattle.panel.specs.Seen.{panelSeen}
+use Rattle.writer.specs.declared.WriterState.{WriterState}
+use Rattle.writer.specs.Seen.{seen, writtenFrom}
+use Rattle.writer.proofs.States.{good-setup, good-size, good-current}
+use Rattle.writer.proofs.Outcome.{answer-by, buffer-by, refusal-is}
+use borrow.Author.Needs.{needs}
+use Rattle.writer.proofs.write.Statement.{statement}
+use Rattle.writer.proofs.write.Tie as tie
+
+-- ---- what the tests say
+
+abbrev st : tie.Start → WriterState
+st s = s .args .state
+
+abbrev fr : tie.Start → List ℤ
+fr s = s .args .frame .now
+
+abbrev need : tie.Start → ℕ
+need s = needOf (panelSeen (st s .setup)) (seen (st s) .writer) (fr s)
+
+abbrev room : tie.Start → Bool
+room s = roomFor (need s) (s .args .at) (length (s .args .buf .now))
+
+abbrev whole : tie.Start → Bool
+whole s = sized (panelSeen (st s .setup)) (fr s)
+
+abbrev values : tie.Start → Bool
+values s = valuesGood (panelSeen (st s .setup)) (fr s)
+
+state-good : (c : tie.Else1) → writerGood base (seen (st (c .before .before .before .before .before .before))) ≡ true
+state-good c = sym (c .before .state-ok .ensures) ∙ not-false (c .before .state-ok .result) (c .if1 .left)
+
+frame-whole : (c : tie.Else2) → whole (c .before .before .before .before .before .before .before .before) ≡ true
+frame-whole c = eq-eqb _ _ (c .if2 .left)
+
+state-ok-requires : tie.Need-state-ok-requires
+state-ok-requires c κs = search needs
+
+refused-requires : tie.Need-refused-requires
+refused-requires c κs = search needs
+
+returns : tie.Need-returns
+returns c =
+    let s = c .before .before .before .before .before .before .before in
+    let g : writerGood base (seen (st s)) ≡ false = sym (c .before .before .state-ok .ensures) ∙ not-true (c .before .before .state-ok .result) (c .before .if1 .taken) in (
+      c .refused .ensures ∙ refusal-is C.state (st s) (need s) ∙ ap writtenFrom (sym (answer-by base (seen (st s)) (fr s) (s .args .at) (s .args .buf .now) false (whole s) (values s) (room s) g refl refl refl)),
+      sym (buffer-by base (seen (st s)) (fr s) (s .args .at) (s .args .buf .now) false (whole s) (values s) (room s) g refl refl refl),
+    )
+
+mul-if2 : tie.Need-mul-if2
+mul-if2 c = omega (arith, good-size (st (c .before .before .before .before .before .before .before)) (state-good (c .before)))
+
+refused-requires-2 : tie.Need-refused-requires-2
+refused-requires-2 c κs = search needs
+
+returns-2 : tie.Need-returns-2
+returns-2 c =
+    let s = c .before .before .before .before .before .before .before .before .before in
+    let g = state-good (c .before .before .before) in
+    let z : whole s ≡ false = ne-eqb (length (fr s)) (4 * st s .setup .n) (c .before .if2 .taken) in (
+      c .refused2 .ensures ∙ refusal-is C.frame (st s) (need s) ∙ ap writtenFrom (sym (answer-by base (seen (st s)) (fr s) (s .args .at) (s .args .buf .now) true false (values s) (room s) g z refl refl)),
+      sym (buffer-by base (seen (st s)) (fr s) (s .args .at) (s .args .buf .now) true false (values s) (room s) g z refl refl),
+    )
+
+values-ok-requires : tie.Need-values-ok-requires
+values-ok-requires c κs = (good-setup (st (c .before .before .before .before .before .before .before .before)) (state-good (c .before .before)), c .if2 .left)
+
+refused-requires-3 : tie.Need-refused-requires-3
+refused-requires-3 c κs = search needs
+
+returns-3 : tie.Need-returns-3
+returns-3 c =
+    let s = c .before .before .before .before .before .before .before .before .before .before .before in
+    let g = state-good (c .before .before .before .before .before) in
+    let z = frame-whole (c .before .before .before) in
+    let v : values s ≡ false = sym (c .before .before .values-ok .ensures) ∙ not-true (c .before .before .values-ok .result) (c .before .if3 .taken) in (
+      c .refused3 .ensures ∙ refusal-is C.value (st s) (need s) ∙ ap writtenFrom (sym (answer-by base (seen (st s)) (fr s) (s .args .at) (s .args .buf .now) true true false (room s) g z v refl)),
+      sym (buffer-by base (seen (st s)) (fr s) (s .args .at) (s .args .buf .now) true true false (room s) g z v refl),
+    )
+
+mul-was : tie.Need-mul-was
+mul-was c = record { fits = omega (arith, good-current (st (c .before .before .before .before .before .before .before .before .before .before)) (state-good (c .before .before .before .before))) }
+
+array-copy-out-was : tie.Need-array-copy-out-was
+array-copy-out-was c = good-current (st (c .before .before .before .before .before .before .before .before .before .before)) (state-good (c .before .before .before .before))
+
+accept-requires : tie.Need-accept-requires
+accept-requires c κs =
+    let v : values (c .before .before .before .before .before .before .before .before .before .before .before .before) ≡ true = sym (c .before .before .before .values-ok .ensures) ∙ not-false (c .before .before .before .values-ok .result) (c .before .before .if3 .left) in
+    (state-good (c .before .before .before .before .before .before), c .before .before .before .before .if2 .left, v, refl, refl)
+
+same-length : tie.Need-same-length
+same-length c = search needs
+
+returns-4 : tie.Need-returns-4
+returns-4 c = search needs
+
+pub write-spec : {M : Type 1} → statement M
+write-spec =
+    tie.close
+    (tie.spec
+    state-ok-requires
+    refused-requires
+    returns
+    mul-if2
+    refused-requires-2
+    returns-2
+    values-ok-requires
+    refused-requires-3
+    returns-3
+    mul-was
+    array-copy-out-was
+    accept-requires
+    same-length
+    returns-4)

@@ -1,0 +1,34 @@
+-- The writer's state and answers as the model's, and back. The promises of `fresh` and `write` go through it. Assumes nothing.
+use Prim.Native.Nat.{ℕ}
+use Rattle.model.specs.States as M
+use Rattle.model.specs.Calls as C
+use Rattle.panel.specs.declared.Verdict.{Verdict}
+use Rattle.panel.specs.declared.Verdict.the-variants.{Accepted}
+use Rattle.panel.specs.Seen.{tableOf, tableFrom, setupOf, setupFrom, verdictFrom}
+use Rattle.writer.specs.declared.WriterState.{WriterState}
+use Rattle.writer.specs.declared.FreshWriter.{FreshWriter}
+use Rattle.writer.specs.declared.Written.{Written}
+
+-- A writer's state, whatever it holds.
+abbrev pub seen : WriterState → M.WriterState
+seen s = record { setup = setupOf (s .setup); writer = record { table = tableOf (s .table); current = s .current .0; counter = s .counter } }
+
+-- The state of such a record; what is seen of a state and held again is the state (proofs/Back).
+abbrev pub held : M.WriterState → WriterState
+held s = record { setup = setupFrom (s .setup); table = tableFrom (s .writer .table); current = record { 0 = s .writer .current }; counter = s .writer .counter }
+
+-- The answer of a fresh writer.
+abbrev pub freshFrom : C.FreshWriter → FreshWriter
+freshFrom a = record { verdict = verdictFrom (a .verdict); state = held (a .state) }
+
+-- The answer of a write.
+abbrev pub writtenFrom : C.Written → Written
+writtenFrom a = record { verdict = verdictFrom (a .verdict); state = held (a .state); count = a .count; changed = a .changed; need = a .need }
+
+-- A refused frame's answer.
+abbrev pub notWrittenBy : Verdict → WriterState → ℕ → Written
+notWrittenBy v s need = record { verdict = v; state = s; count = 0; changed = 0; need = need }
+
+-- An accepted frame's answer.
+abbrev pub writtenBy : WriterState → ℕ → ℕ → Written
+writtenBy s count changed = record { verdict = Accepted; state = s; count = count; changed = changed; need = 0 }

@@ -1,0 +1,195 @@
+// The type B writer: a fresh state, and a frame's events into the caller's buffer with the state after it.
+ghost use mathlib.Core.Path.{_≡_};
+ghost use mathlib.Core.Bool.{true, cond};
+ghost use Prim.Native.Nat.{_+_, _*_, _≤_};
+ghost use lib.Count.{ones};
+ghost use lib.Dec.{eqb};
+ghost use lib.ListN.{length, getD};
+ghost use Rattle.model.specs.Panel.{base};
+ghost use Rattle.model.specs.Frame.{valuesGood};
+ghost use Rattle.model.specs.States.{writerGood};
+ghost use Rattle.model.specs.Calls.{freshWriterCall, writeCall, writeBuffer};
+ghost use Rattle.panel.specs.Seen.{setupOf, panelSeen, blank};
+ghost use Rattle.writer.specs.Seen.{seen, freshFrom, writtenFrom, notWrittenBy, writtenBy};
+use panel::RECORDS;
+use panel::Setup;
+use panel::Slot;
+use panel::SlotNumber;
+use panel::Verdict;
+
+pub struct WriterState {
+    pub setup: Setup,
+    pub table: [Slot; RECORDS],
+    pub current: SlotNumber,
+    pub counter: u32,
+}
+
+pub struct FreshWriter {
+    pub verdict: Verdict,
+    pub state: WriterState,
+}
+
+pub struct Written {
+    pub verdict: Verdict,
+    pub state: WriterState,
+    pub count: usize,
+    pub changed: u16,
+    pub need: usize,
+}
+
+impl WriterState {
+    // A fresh writer for a panel of n slots and these largest values; refusal 1, and zeros, where one is out of its range.
+    pub fn fresh(n: usize, x: u32, y: u32, pressure: u32) -> FreshWriter
+        ensures { λ r. ⌜ r ≡ freshFrom (freshWriterCall base (setupOf (record { n = n; x = x; y = y; pressure = pressure }))) ⌝ }
+    {
+        let setup = Setup { n, x, y, pressure };
+        if !panel::setup_ok(setup) {
+            return FreshWriter {
+                verdict: Verdict::Setup,
+                state: WriterState {
+                    setup: Setup {
+                        n: 0,
+                        x: 0,
+                        y: 0,
+                        pressure: 0,
+                    },
+                    table: panel::zero_table(),
+                    current: SlotNumber(0),
+                    counter: 0,
+                },
+            };
+        }
+        FreshWriter {
+            verdict: Verdict::Accepted,
+            state: WriterState {
+                setup,
+                table: panel::unused_table(),
+                current: SlotNumber(0),
+                counter: 0,
+            },
+        }
+    }
+}
+
+// The parts of a state and not the state: a whole one would be copied number by number.
+fn state_ok(setup: Setup, table: [Slot; RECORDS], current: SlotNumber, counter: u32) -> bool
+    ensures { λ r. ⌜ r ≡ writerGood base (seen (record { setup = setup; table = table; current = current; counter = counter })) ⌝ }
+{
+    if !panel::setup_ok(setup) {
+        return false;
+    }
+    if !panel::table_ok(setup, table) {
+        return false;
+    }
+    if !panel::ids_differ(table) {
+        return false;
+    }
+    if setup.n <= current.0 {
+        return false;
+    }
+    counter < 65536
+}
+
+// The number of events: one for each changed number and each slot that is opened, and the report.
+fn event_count(numbers: u32, others: u16) -> usize
+    requires { ⌜ numbers ≤ 64 ⌝ }
+    ensures { λ r. ⌜ (r ≡ cond (eqb numbers 0) 0 (1 + numbers + ones others)) × (r ≤ 81) ⌝ }
+{
+    if numbers == 0 {
+        return 0;
+    }
+    let slots = tally::ones(others) as usize;
+    1 + (numbers as usize) + slots
+}
+
+fn refused(verdict: Verdict, state: WriterState, need: usize) -> Written
+    ensures { λ r. ⌜ r ≡ notWrittenBy verdict state need ⌝ }
+{
+    Written {
+        verdict,
+        state,
+        count: 0,
+        changed: 0,
+        need,
+    }
+}
+
+fn taken(
+    setup: Setup,
+    table: [Slot; RECORDS],
+    current: SlotNumber,
+    counter: u32,
+    count: usize,
+    changed: u16,
+) -> Written
+    ensures { λ r. ⌜ r ≡ writtenBy (record { setup = setup; table = table; current = current; counter = counter }) count changed ⌝ }
+{
+    Written {
+        verdict: Verdict::Accepted,
+        state: WriterState {
+            setup,
+            table,
+            current,
+            counter,
+        },
+        count,
+        changed,
+        need: 0,
+    }
+}
+
+// A good frame of a good state: its events, unless there is no room for them. `old` is the state's table and `was` its current slot, which the caller has at hand.
+fn accept(
+    state: WriterState,
+    old: [Slot; RECORDS],
+    was: Slot,
+    frame: &[i32],
+    buf: &mut [u8],
+    at: usize,
+) -> Written
+    requires { ⌜ (writerGood base (seen state) ≡ true) × (length (now frame) ≡ 4 * state .setup .n) × (valuesGood (panelSeen (state .setup)) (now frame) ≡ true) × (old ≡ state .table) × (was ≡ getD (state .table) (state .current .0) blank) ⌝ }
+    ensures { λ r. ⌜ (r ≡ writtenFrom (writeCall base (seen state) (now (frame .entry)) at (length (now (buf .entry))))) × (now (buf .exit) ≡ writeBuffer base (seen state) (now (frame .entry)) at (now (buf .entry))) ⌝ }
+{
+    let setup = state.setup;
+    let current = state.current;
+    let p = plan::plan_frame(setup.n, old, state.counter, frame);
+    let new = p.table;
+    let m = tally::count_changes(old, new);
+    let c = current.0;
+    let is = new[c];
+    let others = tally::without_current(m.mask, c, was, is);
+    let count = event_count(m.numbers, others);
+    let need = 8 * count;
+    if buf.len() < at {
+        return refused(Verdict::NoRoom, state, need);
+    }
+    if buf.len() - at < need {
+        return refused(Verdict::NoRoom, state, need);
+    }
+    if count == 0 {
+        return taken(setup, new, current, p.counter, count, m.mask);
+    }
+    let last = send::send_frame(buf, at, old, new, others, current);
+    taken(setup, new, last, p.counter, count, m.mask)
+}
+
+// Writes a frame's events into `buf` from the position `at` on; refusals 2 to 5 in rising number.
+pub fn write(state: WriterState, frame: &[i32], buf: &mut [u8], at: usize) -> Written
+    ensures { λ r. ⌜ (r ≡ writtenFrom (writeCall base (seen state) (now (frame .entry)) at (length (now (buf .entry))))) × (now (buf .exit) ≡ writeBuffer base (seen state) (now (frame .entry)) at (now (buf .entry))) ⌝ }
+{
+    let setup = state.setup;
+    let table = state.table;
+    let current = state.current;
+    if !state_ok(setup, table, current, state.counter) {
+        return refused(Verdict::State, state, 0);
+    }
+    if frame.len() != 4 * setup.n {
+        return refused(Verdict::Frame, state, 0);
+    }
+    if !frame::values_ok(setup, frame) {
+        return refused(Verdict::Value, state, 0);
+    }
+    let c = current.0;
+    let was = table[c];
+    accept(state, table, was, frame, buf, at)
+}
