@@ -13,14 +13,32 @@ abbrev μ-loop : tie.MeasureT-loop
 loop-holds : tie.Need-loop-holds Inv-loop μ-loop
 loop-holds c = search needs
 
-slice-aggregate-word : tie.Need-slice-aggregate-word Inv-loop μ-loop
-slice-aggregate-word c = search needs
+mul-at : tie.Need-mul-at Inv-loop μ-loop
+mul-at c = search needs
 
-mul-word : tie.Need-mul-word Inv-loop μ-loop
-mul-word c = search needs
+array-read-join32 : tie.Need-array-read-join32 Inv-loop μ-loop
+array-read-join32 c = search needs
 
-word-requires : tie.Need-word-requires Inv-loop μ-loop
-word-requires c κs = search needs
+add-join32 : tie.Need-add-join32 Inv-loop μ-loop
+add-join32 c = search needs
+
+array-read-join32-2 : tie.Need-array-read-join32-2 Inv-loop μ-loop
+array-read-join32-2 c = search needs
+
+add-join32-2 : tie.Need-add-join32-2 Inv-loop μ-loop
+add-join32-2 c = search needs
+
+array-read-join32-3 : tie.Need-array-read-join32-3 Inv-loop μ-loop
+array-read-join32-3 c = search needs
+
+add-join32-3 : tie.Need-add-join32-3 Inv-loop μ-loop
+add-join32-3 c = search needs
+
+array-read-join32-4 : tie.Need-array-read-join32-4 Inv-loop μ-loop
+array-read-join32-4 c = search needs
+
+join32-requires : tie.Need-join32-requires Inv-loop μ-loop
+join32-requires c κs = search needs
 
 signed-requires : tie.Need-signed-requires Inv-loop μ-loop
 signed-requires c κs = search needs
@@ -50,9 +68,15 @@ numbers-of-spec =
     Inv-loop
     μ-loop
     loop-holds
-    slice-aggregate-word
-    mul-word
-    word-requires
+    mul-at
+    array-read-join32
+    add-join32
+    array-read-join32-2
+    add-join32-2
+    array-read-join32-3
+    add-join32-3
+    array-read-join32-4
+    join32-requires
     signed-requires
     mul-f
     array-set-from-f
