@@ -1,7 +1,9 @@
 -- `plan::contact` is a slot with an id and a row's numbers. Assumes nothing.
+use mathlib.Core.Path.{ap, _∙_}
 use mir.Syntax.{w32}
 use mir.ValLaws.{toZ-ofZ}
 use borrow.Author.Needs.{needs}
+use Rattle.model.specs.Records.{bitsOf}
 use Rattle.plan.proofs.contact.Statement.{statement}
 use Rattle.plan.proofs.contact.Tie as tie
 
@@ -17,7 +19,11 @@ bits-of-requires-3 c κs = search needs
 returns : tie.Need-returns
 returns c =
     let s = c .before .before .before in
-    rw (c .bits-of3 .ensures, c .before .bits-of2 .ensures, c .before .before .bits-of .ensures, toZ-ofZ w32 (s .args .id) (s .fits .id), toZ-ofZ w32 (s .args .x) (s .fits .x), toZ-ofZ w32 (s .args .y) (s .fits .y), toZ-ofZ w32 (s .args .pressure) (s .fits .pressure))
+    let i = toZ-ofZ w32 (s .args .id) (s .fits .id) in
+    let x = c .before .before .bits-of .ensures ∙ ap bitsOf (toZ-ofZ w32 (s .args .x) (s .fits .x)) in
+    let y = c .before .bits-of2 .ensures ∙ ap bitsOf (toZ-ofZ w32 (s .args .y) (s .fits .y)) in
+    let p = c .bits-of3 .ensures ∙ ap bitsOf (toZ-ofZ w32 (s .args .pressure) (s .fits .pressure)) in
+    λ t. record { id = record { 0 = i t }; x = x t; y = y t; pressure = p t }
 
 pub contact-spec : {M : Type 1} → statement M
 contact-spec = tie.close (tie.spec bits-of-requires bits-of-requires-2 bits-of-requires-3 returns)

@@ -41,7 +41,17 @@ loop-holds c =
     let z : a .n - 0 ≡ a .n = omega arith in
     let lt : length (a .old) ≡ 16 = search needs in
     let ll : length (c .ids-of .result) ≡ 32 = search needs in
-    rw (z, c .ids-of .ensures) (search needs, search needs, search needs, lt, ll, c .before .pre .3, refl, refl)
+    let rows = rowsFrom 4 (a .n) (a .frame .now) 0 in
+    rw z (
+      search needs,
+      search needs,
+      search needs,
+      lt,
+      ll,
+      c .before .pre .3,
+      ap (λ l. tableFrom l (a .counter) rows (tableOf (a .old))) (sym (c .ids-of .ensures)),
+      ap (λ l. counterFrom l (a .counter) rows (tableOf (a .old))) (sym (c .ids-of .ensures)),
+    )
 
 mul-i : tie.Need-mul-i Inv-loop μ-loop
 mul-i c = search needs

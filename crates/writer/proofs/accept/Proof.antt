@@ -42,26 +42,21 @@ new-sixteen : (c : tie.After-plan-frame) → length (c .plan-frame .result .tabl
 new-sixteen c = search (needs, unmapped)
 
 table-is : (c : tie.After-plan-frame) → (let s = c .before .before .before .before in tableOf (c .plan-frame .result .table) ≡ newTable (st s .counter) (rowsOf (panelSeen (st s .setup)) (s .args .frame .now)) (old s))
-table-is c =
-    let s = c .before .before .before .before in
-    c .plan-frame .ensures .0 ∙ ap (λ t. newTable (st s .counter) (rowsOf (panelSeen (st s .setup)) (s .args .frame .now)) (tableOf t)) (s .pre .3)
+table-is c = rw (c .before .before .before .before .pre .3) at (c .plan-frame .ensures .0)
 
 counter-is : (c : tie.After-plan-frame) → (let s = c .before .before .before .before in c .plan-frame .result .counter ≡ newCounter (st s .counter) (rowsOf (panelSeen (st s .setup)) (s .args .frame .now)) (old s))
-counter-is c =
-    let s = c .before .before .before .before in
-    c .plan-frame .ensures .1 ∙ ap (λ t. newCounter (st s .counter) (rowsOf (panelSeen (st s .setup)) (s .args .frame .now)) (tableOf t)) (s .pre .3)
+counter-is c = rw (c .before .before .before .before .pre .3) at (c .plan-frame .ensures .1)
 
 mask-is : (c : tie.After-count-changes) → c .count-changes .result .mask ≡ changedMask (old (c .before .before .before .before .before .before)) (tableOf (c .before .before .plan-frame .result .table))
-mask-is c = c .count-changes .ensures .0 ∙ ap (λ t. changedMask (tableOf t) (tableOf (c .before .before .plan-frame .result .table))) (c .before .before .before .before .before .before .pre .3)
+mask-is c = rw (c .before .before .before .before .before .before .pre .3) at (c .count-changes .ensures .0)
 
 numbers-are : (c : tie.After-count-changes) → c .count-changes .result .numbers ≡ changedNumbers (old (c .before .before .before .before .before .before)) (tableOf (c .before .before .plan-frame .result .table))
-numbers-are c = c .count-changes .ensures .1 ∙ ap (λ t. changedNumbers (tableOf t) (tableOf (c .before .before .plan-frame .result .table))) (c .before .before .before .before .before .before .pre .3)
+numbers-are c = rw (c .before .before .before .before .before .before .pre .3) at (c .count-changes .ensures .1)
 
 others-are : (c : tie.After-without-current) → c .without-current .result ≡ othersMask (c0 (c .before .before .before .before .before .before .before .before)) (old (c .before .before .before .before .before .before .before .before)) (tableOf (c .before .before .before .before .plan-frame .result .table))
 others-are c =
     let s = c .before .before .before .before .before .before .before .before in
     let m = c .before .before .count-changes .result .mask in
-    let is = c .before .is in
     bit-out (st s .table) (c .before .before .before .before .plan-frame .result .table) (old-sixteen s) (new-sixteen (c .before .before .before .before)) (c0 s) (good-current (st s) (s .pre .0)) m (c .without-current .result) (mask-is (c .before .before))
     (rw (s .pre .4) at (c .without-current .ensures))
 
