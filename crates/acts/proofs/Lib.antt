@@ -1,2 +1,3 @@
 -- The laws behind the acts.
 pub mod Values
+pub mod Unique

@@ -1,2 +1,3 @@
 -- The laws behind the judging of a frame.
 pub mod Ranges
+pub mod Unique

@@ -1,6 +1,6 @@
 -- Event records there and back: what was encoded is decoded, alone and in the middle of a buffer; demand 2 over bytes. Assumes nothing.
 use mathlib.Core.Path.{_≡_, refl, sym, ap, ap₂, _∙_}
-use mathlib.Core.Bool.{Bool, _&&_}
+use mathlib.Core.Bool.{Bool, true, false, _&&_, cond}
 use mathlib.Core.List.{List, [], _∷_, _++_, map, append-assoc}
 use Prim.Native.Nat.{ℕ, zero, suc, _+_, _-_, _*_, _/_, _%_, _≤_, _<_}
 use native.Mathlib.Omega.{arith}
@@ -35,6 +35,14 @@ signed-bits (negsuc n) h =
     let l : n ≤ 2_147_483_647 = leb→le n 2_147_483_647 (both-left (leb n 2_147_483_647) _ h) in
     let b : 4_294_967_295 - (4_294_967_295 - n) ≡ n = omega arith in
     rw (le-ltb (4_294_967_295 - n) 2_147_483_648 (omega arith), b)
+
+pub bits-signed : (v : ℕ) → v < 4_294_967_296 → bitsOf (signedOf v) ≡ v
+unfolding signedOf bitsOf
+bits-signed v h =
+    (elim (ltb v 2_147_483_648) as (λ b. bitsOf (cond b (pos v) (negsuc (4_294_967_295 - v))) ≡ v) [
+      | true ↦ refl
+      | false ↦ omega arith
+    ])
 
 bits-below : (z : ℤ) → T (signed32 z) → bitsOf z < 4_294_967_296
 unfolding bitsOf

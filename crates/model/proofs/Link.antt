@@ -1,5 +1,5 @@
 -- Demands 2 and 3 said of the calls, in bytes: what `write` put into a buffer, read by `run`. The crate link says it of the code. Assumes nothing.
-use mathlib.Core.Path.{_≡_, refl, sym, ap, ap₂, _∙_}
+use mathlib.Core.Path.{_≡_, refl, sym, ap, ap₂, _∙_, subst}
 use mathlib.Core.Bool.{true, false, cond}
 use mathlib.Core.List.{List, map}
 use Prim.Native.Nat.{ℕ, zero, suc, _+_, _*_, _/_, _%_, _≤_}
@@ -26,12 +26,25 @@ use Rattle.model.specs.Frame.{valuesGood}
 use Rattle.model.specs.Sending.{eventOf, sending, fewest}
 use Rattle.model.specs.Reader.{following, follow, nothing, oneShown, tallies, run as runOver}
 use Rattle.model.specs.States.{WriterState, writerGood, readerGood}
-use Rattle.model.specs.Calls.{isAccepted, accepted, frameEvents, writerAfter, writeVerdict, Written, taken, writeCall, writeBuffer, ran, notRun, runVerdict, runCall}
+use Rattle.model.specs.Calls.{isAccepted, accepted, frameEvents, writerAfter, needOf, writeVerdict, Written, notWritten, taken, writeCall, writeBuffer, ran, notRun, runVerdict, runCall}
 use Rattle.model.specs.Bench.{pupil}
 
 -- What is in the buffer from the position on, for eight times the count.
 abbrev pub written : Layout → WriterState → List ℤ → ℕ → List ℕ → List ℕ
 written l s f at buf = take (8 * writeCall l s f at (length buf) .count) (drop at (writeBuffer l s f at buf))
+
+-- A call that answers "accepted" had that verdict.
+pub call-verdict : (l : Layout) (s : WriterState) (f : List ℤ) (at size : ℕ) → writeCall l s f at size .verdict ≡ accepted → T (isAccepted (writeVerdict l s f at size))
+unfolding writeCall
+call-verdict l s f at size e =
+    let p = panelOf l (s .setup) in
+    let v = writeVerdict l s f at size in
+    let x = taken p s f in
+    let y = notWritten v s (needOf p (s .writer) f) in
+    (elim (isAccepted v) as (λ b. (T b → T (isAccepted v)) → (cond b x y) .verdict ≡ accepted → T (isAccepted v)) [
+      | true ↦ λ i d. i tt
+      | false ↦ λ i d. subst (λ z. T (isAccepted z)) (sym d) tt
+    ]) (λ t. t) e
 
 module _ (l : Layout) (s : WriterState) (f : List ℤ) (at : ℕ) (buf : List ℕ) (g : T (goodLayout l)) (h : T (isAccepted (writeVerdict l s f at (length buf)))) where
   good : T (writerGood l s)

@@ -12,3 +12,4 @@ pub mod States
 pub mod Calls
 pub mod Pod
 pub mod Bench
+pub mod Unique

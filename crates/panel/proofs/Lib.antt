@@ -4,3 +4,4 @@ pub mod Slots
 pub mod Tables
 pub mod Back
 pub mod Setups
+pub mod Unique

@@ -1,2 +1,3 @@
 -- The laws behind the plan.
 pub mod Turn
+pub mod Unique

@@ -1,2 +1,3 @@
 -- The laws behind the reader's calls.
 pub mod States
+pub mod Unique

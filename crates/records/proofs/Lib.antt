@@ -2,3 +2,4 @@
 pub mod Bits
 pub mod Over
 pub mod RoundTrip
+pub mod Unique

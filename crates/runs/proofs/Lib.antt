@@ -2,3 +2,4 @@
 pub mod Runs
 pub mod Waits
 pub mod Turns
+pub mod Unique

@@ -1,2 +1,3 @@
 -- The laws behind the sending.
 pub mod Parts
+pub mod Unique

@@ -1,2 +1,3 @@
 -- The laws behind the tally.
 pub mod Mask
+pub mod Unique

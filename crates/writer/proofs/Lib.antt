@@ -5,3 +5,4 @@ pub mod Outcome
 pub mod Events
 pub mod Accepted
 pub mod Demands
+pub mod Unique

@@ -1,0 +1,2 @@
+-- The demands, of the contracts of `write` and `run`.
+pub mod Demands

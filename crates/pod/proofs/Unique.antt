@@ -1,0 +1,11 @@
+-- The pod's promises leave no choice: each law is of the contract itself. Assumes nothing.
+use mathlib.Core.Path.{sym, _∙_}
+use Rattle.model.specs.Unique.{OneAnswer}
+use Rattle.pod.proofs.PodState.fresh.Reads as fresh
+use Rattle.pod.proofs.step.Reads as step
+
+pub fresh-one : OneAnswer fresh.Learnt
+fresh-one κs a r q s t e g = e ∙ sym g
+
+pub step-one : OneAnswer step.Learnt
+step-one κs a r q s t e g = e ∙ sym g
