@@ -1,0 +1,298 @@
+// Runs the bench sheet of document 01: a line for each of its Run cases, but the small program's, with every number of the answer. Reads no input.
+use panel::RECORDS;
+use panel::Setup;
+use panel::Slot;
+use panel::TrackingId;
+use pod::Absolute;
+use pod::BothSticks;
+use pod::OneStick;
+use pod::PodState;
+use pod::Relative;
+use pod::Report;
+use pod::Stick;
+use reader::FreshAnswer;
+use reader::Mode;
+use reader::ReaderState;
+use writer::FreshWriter;
+use writer::WriterState;
+use writer::Written;
+
+// The sheet's largest x and y, and its largest pressure.
+const LARGEST: u32 = 4000;
+
+const HARDEST: u32 = 255;
+
+// Where P2's bytes begin in their buffers, and what the buffers hold before: no record of P2 has this byte, so a byte that was touched shows.
+const AT: usize = 3;
+
+const FILLED: u8 = 170;
+
+fn say_number(n: u64) {
+    stream::say(b" ");
+    stream::say_number(n);
+}
+
+fn say_signed(v: i8) {
+    stream::say(b" ");
+    stream::say_signed(v as i32);
+}
+
+fn say_bit(on: bool) {
+    if on {
+        stream::say(b" 1");
+    } else {
+        stream::say(b" 0");
+    }
+}
+
+fn say_part(name: &[u8], n: u64) {
+    stream::say(name);
+    say_number(n);
+}
+
+// By itself, since a parameter is known to fit its type, which spares a proof that an element of a slice does.
+fn say_byte(b: u8) {
+    say_number(b as u64);
+}
+
+fn say_bytes(bytes: &[u8]) {
+    stream::say(b" bytes");
+    let mut i = 0;
+    while i < bytes.len() {
+        say_byte(bytes[i]);
+        i += 1;
+    }
+}
+
+fn say_setup(s: Setup) {
+    say_part(b" setup", s.n as u64);
+    say_number(s.x as u64);
+    say_number(s.y as u64);
+    say_number(s.pressure as u64);
+}
+
+fn say_slot(s: Slot) {
+    let id = s.id;
+    stream::say(b" ");
+    stream::say_signed(id.0);
+    stream::say(b",");
+    stream::say_number(s.x as u64);
+    stream::say(b",");
+    stream::say_number(s.y as u64);
+    stream::say(b",");
+    stream::say_number(s.pressure as u64);
+}
+
+fn say_table(name: &[u8], table: [Slot; RECORDS]) {
+    stream::say(name);
+    let mut k: usize = 0;
+    while k < RECORDS {
+        say_slot(table[k]);
+        k += 1;
+    }
+}
+
+fn say_mode(m: Mode) {
+    match m {
+        Mode::Following => stream::say(b" following"),
+        Mode::Dropped => stream::say(b" dropped"),
+        Mode::Stale => stream::say(b" stale"),
+    }
+}
+
+fn say_writer(s: WriterState) {
+    let setup = s.setup;
+    let current = s.current;
+    let table = s.table;
+    say_setup(setup);
+    say_part(b" current", current.0 as u64);
+    say_part(b" counter", s.counter as u64);
+    say_table(b" table", table);
+}
+
+fn say_reader(s: ReaderState) {
+    let mode = s.mode;
+    let setup = s.setup;
+    let current = s.current;
+    let shown = s.shown;
+    let pending = s.pending;
+    say_mode(mode);
+    say_setup(setup);
+    say_part(b" current", current.0 as u64);
+    say_table(b" shown", shown);
+    say_table(b" pending", pending);
+}
+
+// A writer's answer, with the whole buffer that it was lent.
+fn say_written(name: &[u8], a: Written, buf: &[u8]) {
+    let verdict = a.verdict;
+    let state = a.state;
+    stream::say(name);
+    say_part(b": verdict", verdict.number() as u64);
+    say_part(b" count", a.count as u64);
+    say_part(b" changed", a.changed as u64);
+    say_part(b" need", a.need as u64);
+    say_writer(state);
+    say_bytes(buf);
+    stream::say(b"\n");
+}
+
+// Id 7 is live while its own contact is replaced, so the new one takes 8: a writer that frees it first would send nothing.
+fn counter_case() {
+    let fresh = WriterState::fresh(1, LARGEST, LARGEST, HARDEST);
+    let mut state = fresh.state;
+    state.table[0] = Slot {
+        id: TrackingId(7),
+        x: 100,
+        y: 200,
+        pressure: 30,
+    };
+    state.counter = 7;
+    let frame = [2, 100, 200, 30];
+    let mut buf = [0; 16];
+    let a = writer::write(state, &frame, &mut buf, 0);
+    say_written(b"counter 7", a, &buf);
+}
+
+fn after_p1() -> WriterState {
+    let fresh = WriterState::fresh(2, LARGEST, LARGEST, HARDEST);
+    let first = fresh.state;
+    let frame = [1, 100, 200, 30, 0, 0, 0, 0];
+    let mut buf = [0; 40];
+    let a = writer::write(first, &frame, &mut buf, 0);
+    a.state
+}
+
+fn write_p2(buf: &mut [u8]) -> Written {
+    let state = after_p1();
+    let frame = [1, 100, 200, 30, 1, 300, 400, 30];
+    writer::write(state, &frame, buf, AT)
+}
+
+fn room_cases() {
+    let mut short = [FILLED; AT + 47];
+    let refused = write_p2(&mut short);
+    say_written(b"P2 with 47", refused, &short);
+    let mut enough = [FILLED; AT + 48];
+    let written = write_p2(&mut enough);
+    say_written(b"P2 with 48", written, &enough);
+}
+
+fn say_fresh_writer(a: FreshWriter) {
+    let verdict = a.verdict;
+    let state = a.state;
+    say_part(b" writer verdict", verdict.number() as u64);
+    say_writer(state);
+}
+
+fn say_fresh_reader(a: FreshAnswer) {
+    let verdict = a.verdict;
+    let state = a.state;
+    say_part(b" reader verdict", verdict.number() as u64);
+    say_reader(state);
+}
+
+fn setup_case(n: usize) {
+    say_part(b"n", n as u64);
+    stream::say(b":");
+    say_fresh_writer(WriterState::fresh(n, LARGEST, LARGEST, HARDEST));
+    say_fresh_reader(ReaderState::fresh(n, LARGEST, LARGEST, HARDEST));
+    stream::say(b"\n");
+}
+
+fn say_stick(s: Stick) {
+    say_bit(s.trigger);
+    say_number(s.position as u64);
+}
+
+fn say_absolute(r: Absolute) {
+    say_part(b" absolute", r.flags as u64);
+    say_number(r.x as u64);
+    say_number(r.y as u64);
+}
+
+fn say_relative(r: Relative) {
+    stream::say(b" relative");
+    say_bit(r.left);
+    say_bit(r.right);
+    say_signed(r.dx);
+    say_signed(r.dy);
+}
+
+fn say_both(r: BothSticks) {
+    let stick0 = r.stick0;
+    let stick1 = r.stick1;
+    stream::say(b" sticks");
+    say_stick(stick0);
+    say_stick(stick1);
+}
+
+fn say_one(r: OneStick) {
+    let stick = r.stick;
+    say_part(b" stick", r.which as u64);
+    say_stick(stick);
+}
+
+fn say_report(report: Report) {
+    match report {
+        Report::More => stream::say(b" more"),
+        Report::KeyDown(r) => say_part(b" down", r.key as u64),
+        Report::KeyUp(r) => say_part(b" up", r.key as u64),
+        Report::Absolute(r) => say_absolute(r),
+        Report::Relative(r) => say_relative(r),
+        Report::BothSticks(r) => say_both(r),
+        Report::OneStick(r) => say_one(r),
+        Report::BadByte(_) => stream::say(b" bad byte"),
+        Report::BadReport => stream::say(b" bad report"),
+        Report::Refused => stream::say(b" refused 2"),
+    }
+    stream::say(b";");
+}
+
+// Says the answer of each byte and gives back the state after the last.
+fn feed(bytes: &[u8]) -> PodState {
+    let mut s = PodState::fresh();
+    let mut i = 0;
+    while i < bytes.len() {
+        let answer = pod::step(s, bytes[i]);
+        let report = answer.report;
+        say_report(report);
+        let next = answer.state;
+        s = next;
+        i += 1;
+    }
+    s
+}
+
+fn pod_case(name: &[u8], bytes: &[u8]) {
+    stream::say(name);
+    stream::say(b":");
+    let s = feed(bytes);
+    let held = s.bytes;
+    say_part(b" count", s.count as u64);
+    say_bytes(&held);
+    stream::say(b"\n");
+}
+
+fn pod_cases() {
+    pod_case(b"FA 00 00", &[0xfa, 0x00, 0x00]);
+    pod_case(b"FE 81", &[0xfe, 0x81]);
+    pod_case(b"FF 10", &[0xff, 0x10]);
+    pod_case(b"F7 05 01 2C 00 C8", &[0xf7, 0x05, 0x01, 0x2c, 0x00, 0xc8]);
+    pod_case(b"75", &[0x75]);
+    pod_case(b"F5", &[0xf5]);
+    pod_case(b"00", &[0x00]);
+    pod_case(b"76", &[0x76]);
+    pod_case(b"80", &[0x80]);
+    pod_case(b"F6", &[0xf6]);
+}
+
+fn main() {
+    counter_case();
+    pod_cases();
+    room_cases();
+    setup_case(0);
+    setup_case(1);
+    setup_case(16);
+    setup_case(17);
+}
