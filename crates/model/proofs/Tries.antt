@@ -7,9 +7,9 @@ use native.Mathlib.Omega.{arith}
 use lib.IntN.{ℤ, pos}
 use lib.ListN.{length}
 use Rattle.model.proofs.Bools.{is-true}
-use Rattle.model.proofs.Ids.{pick-free, fated}
+use Rattle.model.proofs.Ids.{pick-free}
 use Rattle.model.specs.Numbers.{eqZ}
-use Rattle.model.specs.Table.{Slot, Table, idOf, numbersOf, unheld}
+use Rattle.model.specs.Table.{Table, idOf, numbersOf, unheld}
 use Rattle.model.specs.Frame.{kindOf, Fate, none, goesOn, begins, fate, next, pick, freeId, slotAfter, takenAfter, counterAfter, tableFrom, counterFrom}
 
 -- ---- how many tries

@@ -1,6 +1,5 @@
 -- What is seen of a value and held again is the value, whatever it is: so a refusal hands a state back unchanged. And what is held of good records is seen again. Cited by the reader and the writer. Assumes nothing.
 use mathlib.Core.Path.{_≡_, refl, sym, ap, ap₂, _∙_}
-use mathlib.Core.Bool.{Bool}
 use mathlib.Core.List.{List, [], _∷_}
 use Prim.Native.Nat.{ℕ, zero, suc}
 use lib.Dec.{T}

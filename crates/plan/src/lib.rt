@@ -14,7 +14,7 @@ use panel::Slot;
 use panel::TrackingId;
 
 // The most ids that are taken in a frame: every old one, and one given to each slot.
-const TAKEN: usize = 32;
+const TAKEN: usize = 2 * RECORDS;
 
 // Whether v is none of the taken ids.
 fn absent(taken: &[i32], v: i32) -> bool

@@ -6,9 +6,9 @@ use panel::Verdict;
 use writer::WriterState;
 
 // The bytes and the numbers of a frame of 16 slots, and the most bytes of its events.
-const BYTES: usize = 256;
+const BYTES: usize = 16 * RECORDS;
 
-const NUMBERS: usize = 64;
+const NUMBERS: usize = 4 * RECORDS;
 
 const EVENTS: usize = 640;
 

@@ -1,6 +1,6 @@
 -- What becomes of a good frame of a good state: refused for want of room, or written. Cited by the proof of `accept`. Assumes nothing.
-use mathlib.Core.Path.{_≡_, refl, sym, ap, ap₂, _∙_}
-use mathlib.Core.Bool.{Bool, true, false, _&&_}
+use mathlib.Core.Path.{_≡_, sym, ap, ap₂, _∙_}
+use mathlib.Core.Bool.{true, false, _&&_}
 use mathlib.Core.List.{List, [], _∷_, _++_}
 use Prim.Native.Nat.{ℕ, _<_, _≤_, _+_, _-_, _*_}
 use native.Mathlib.Omega.{arith}
@@ -16,7 +16,7 @@ use Rattle.model.specs.Sending.{sendReport, sending, lastOpened, currentAfter, 
 use Rattle.model.specs.Order.{othersMask}
 use Rattle.model.specs.States.{writerGood}
 use Rattle.model.specs.Calls as C
-use Rattle.model.specs.Calls.{frameEvents, needOf, roomFor, taken, writeCall, writeBuffer}
+use Rattle.model.specs.Calls.{frameEvents, needOf, roomFor, writeCall, writeBuffer}
 use Rattle.model.proofs.Bytes.{bytes-length}
 use Rattle.model.proofs.Calls.{frame-count}
 use Rattle.panel.specs.declared.Slot.{Slot}

@@ -5,7 +5,7 @@ use Prim.Native.Nat.{ℕ, zero, suc, _+_, _*_, _-_, _^_, _<_, _≤_}
 use native.Mathlib.Omega.{arith}
 use lib.ListN.{length, getD, length-map}
 use Rattle.model.specs.Records.{bytesOf}
-use Rattle.model.specs.Sending.{Sent, sendSlot, sendReport, changes, otherChanges, body, closed, sending, lastOpened, currentAfter, eventsSent, oneUnless, sameSlot, changedMask, fewest}
+use Rattle.model.specs.Sending.{Sent, sendSlot, sendReport, changes, body, closed, sending, lastOpened, currentAfter, eventsSent, oneUnless, sameSlot, changedMask, fewest}
 use Rattle.model.specs.Order.{ofMask, othersMask}
 use Rattle.model.proofs.Count.{sending-count}
 use Rattle.model.proofs.Follow.{last-append}

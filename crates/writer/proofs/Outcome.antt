@@ -1,13 +1,12 @@
 -- The answer of a write and its buffer by the four tests, and the code's answers as the model's. Cited by the proofs of `write` and `accept`. Assumes nothing.
-use mathlib.Core.Path.{_≡_, refl, sym, ap, _∙_}
-use mathlib.Core.Bool.{Bool, true, false, cond}
+use mathlib.Core.Path.{_≡_, sym, ap, _∙_}
+use mathlib.Core.Bool.{Bool, cond}
 use mathlib.Core.List.{List}
-use Prim.Native.Nat.{ℕ, _+_}
+use Prim.Native.Nat.{ℕ}
 use lib.Dec.{eqb}
 use lib.IntN.{ℤ}
 use lib.ListN.{length}
-use Rattle.model.specs.Panel.{Layout, Panel, base, panelOf}
-use Rattle.model.specs.Table.{Table}
+use Rattle.model.specs.Panel.{Layout, Panel, panelOf}
 use Rattle.model.specs.Records.{bytesOf, lay}
 use Rattle.model.specs.Frame.{rowsOf, sized, valuesGood, newTable, newCounter}
 use Rattle.model.specs.Sending.{currentAfter, changedMask}

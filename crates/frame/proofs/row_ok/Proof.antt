@@ -1,13 +1,10 @@
 -- `frame::row_ok` tells whether one slot's row is good, kind by kind. Assumes nothing.
 use borrow.Author.Needs.{needs}
 use mathlib.Core.Path.{_≡_, ap, _∙_}
-use mathlib.Core.List.{_∷_, []}
 use lib.IntN.{pos}
 use mir.Syntax.{w32}
 use mir.ValLaws.{toZ-ofZ}
 use Rattle.model.specs.Numbers.{eqZ}
-use Rattle.model.specs.Table.{goodSlot}
-use Rattle.panel.specs.Seen.{axesOf}
 use Rattle.frame.proofs.row_ok.Statement.{statement}
 use Rattle.frame.proofs.row_ok.Tie as tie
 

@@ -1,6 +1,6 @@
 -- `plan::absent` tells whether a number is none of the taken ids. The loop has passed j others. Assumes nothing.
 use borrow.Author.Needs.{needs}
-use mathlib.Core.Path.{_≡_, refl, sym, ap, _∙_}
+use mathlib.Core.Path.{_≡_, sym, ap, _∙_}
 use mathlib.Core.Bool.{not, _&&_}
 use Prim.Native.Nat.{_≤_, _+_, _-_}
 use lib.IntN.{pos}

@@ -1,9 +1,9 @@
 -- `plan::plan_frame` makes the table and the counter after a frame. The loop has made the first s slots; the first m of `taken` are the ids taken so far, and the rest of t is as it was. Assumes nothing.
 use borrow.Author.Needs.{needs}
-use mathlib.Core.Path.{_≡_, refl, sym, ap, ap₂, _∙_}
+use mathlib.Core.Path.{_≡_, refl, sym, ap, _∙_}
 use mathlib.Core.Bool.{true, false, _&&_}
 use mathlib.Core.List.{List, [], _∷_, _++_, map-append}
-use Prim.Native.Nat.{_<_, _≤_, _+_, _-_, _*_}
+use Prim.Native.Nat.{ℕ, _<_, _≤_, _+_, _-_, _*_}
 use native.Mathlib.Numerals.{add-one}
 use native.Mathlib.Omega.{arith}
 use lib.IntN.{ℤ, pos}
@@ -13,9 +13,10 @@ use mir.Syntax.{w32}
 use mir.Val.{SFits}
 use mir.ValLaws.{toZ-ofZ}
 use Rattle.model.specs.Numbers.{eqZ}
-use Rattle.model.specs.Frame.{begins, fate, next, freeId, rowsFrom, takenAfter, counterAfter, tableFrom, counterFrom, newTable, newCounter}
+use Rattle.model.specs.Frame.{Fate, fate, next, freeId, rowsFrom, slotAfter, takenAfter, counterAfter, tableFrom, counterFrom, newTable, newCounter}
 use Rattle.model.proofs.Rows.{rows-next, rows-none, row-of-four}
 use Rattle.model.proofs.Tries.{Same, same-last}
+use Rattle.panel.specs.declared.Slot.{Slot}
 use Rattle.panel.specs.Seen.{slotOf, tableOf, blank}
 use Rattle.plan.specs.Row.{begun, held, stayed, plainRow, plainRows}
 use Rattle.plan.proofs.Turn.{and-left, and-right, begun-slot, stayed-slot, begun-taken, begun-counter, stayed-taken, stayed-counter, table-turn, counter-turn}
@@ -31,6 +32,67 @@ Inv-loop n counter frame taken₀ m₀ t₀ k₀ s₀ taken m t k s =
 
 abbrev μ-loop : tie.MeasureT-loop
 μ-loop n counter frame taken₀ m₀ t₀ k₀ s₀ taken m t k s = n - s
+
+-- ---- slot s and its row, which both arms of the loop start from
+
+abbrev fr : tie.After-begins Inv-loop μ-loop → List ℤ
+fr b = b .before .before .before .before .before .before .before .before .args .frame .now
+
+abbrev s : tie.After-begins Inv-loop μ-loop → ℕ
+s b = b .before .before .before .before .before .before .loop .s
+
+abbrev number : ℕ → tie.After-begins Inv-loop μ-loop → ℤ
+number i b = getD (fr b) (4 * s b + i) (pos 0)
+
+abbrev kind : tie.After-begins Inv-loop μ-loop → ℤ
+kind b = getD (fr b) (4 * s b) (pos 0)
+
+abbrev row : tie.After-begins Inv-loop μ-loop → List ℤ
+row b = kind b ∷ number 1 b ∷ number 2 b ∷ number 3 b ∷ []
+
+abbrev rest : tie.After-begins Inv-loop μ-loop → List (List ℤ)
+rest b = rowsFrom 4 (b .before .before .before .before .before .before .before .before .args .n - (s b + 1)) (fr b) (4 * (s b + 1))
+
+abbrev was : tie.After-begins Inv-loop μ-loop → Slot
+was b = getD (b .before .before .before .before .before .before .loop .t) (s b) blank
+
+abbrev becomes : tie.After-begins Inv-loop μ-loop → Fate
+becomes b = fate (kind b) (was b .id .0)
+
+-- the ids taken so far, and the id that a contact that begins here takes
+abbrev taken : tie.After-begins Inv-loop μ-loop → List ℤ
+taken b = take (b .before .before .before .before .before .before .loop .m) (b .before .before .before .before .before .before .loop .taken)
+
+abbrev given : tie.After-begins Inv-loop μ-loop → ℕ
+given b = freeId (taken b) (b .before .before .before .before .before .before .loop .k)
+
+inside : (b : tie.After-begins Inv-loop μ-loop) → s b < length (b .before .before .before .before .before .before .loop .t)
+inside b = omega (arith, b .before .before .before .before .before .loop-test .taken, b .before .before .before .before .before .before .loop .inv .3, b .before .before .before .before .before .before .before .before .pre .0)
+
+rows-are : (b : tie.After-begins Inv-loop μ-loop) → rowsFrom 4 (b .before .before .before .before .before .before .before .before .args .n - s b) (fr b) (4 * s b) ≡ row b ∷ rest b
+rows-are b = rows-next 4 (b .before .before .before .before .before .before .before .before .args .n) (s b) (fr b) (b .before .before .before .before .before .loop-test .taken) ∙ ap {B = List (List ℤ)} (λ r. r ∷ rest b) (row-of-four (fr b) (4 * s b))
+
+plain : (b : tie.After-begins Inv-loop μ-loop) → (plainRow (row b) && plainRows (rest b)) ≡ true
+plain b = sym (ap plainRows (rows-are b)) ∙ b .before .before .before .before .before .before .loop .inv .5
+
+begins-is : (b : tie.After-begins Inv-loop μ-loop) → b .begins .result ≡ begun (becomes b)
+begins-is b =
+    let f : SFits w32 (kind b) = search needs in
+    let g : SFits w32 (was b .id .0) = search needs in
+    rw (toZ-ofZ w32 (kind b) f, toZ-ofZ w32 (was b .id .0) g) at (b .begins .ensures)
+
+-- What is left to make, once the slot is w, the ids taken are `more` and the counter is k.
+module _ (b : tie.After-begins Inv-loop μ-loop) (w : Slot) (more : List ℤ) (k : ℕ) (same : Same (takenAfter (becomes b) (given b) (taken b)) more) (count : counterAfter (becomes b) (given b) (b .before .before .before .before .before .before .loop .k) ≡ k) where
+  table-left : slotOf w ≡ slotAfter (becomes b) (given b) (slotOf (was b)) (number 1 b ∷ number 2 b ∷ number 3 b ∷ [])
+      → newTable (b .before .before .before .before .before .before .before .before .args .counter) (rowsFrom 4 (b .before .before .before .before .before .before .before .before .args .n) (fr b) 0) (tableOf (b .before .before .before .before .before .before .before .before .args .old)) ≡ tableOf (take (s b + 1) (set (b .before .before .before .before .before .before .loop .t) (s b) w)) ++ tableFrom more k (rest b) (tableOf (drop (s b + 1) (set (b .before .before .before .before .before .before .loop .t) (s b) w)))
+  table-left e =
+      b .before .before .before .before .before .before .loop .inv .6 ∙ ap (λ r. tableOf (take (s b) (b .before .before .before .before .before .before .loop .t)) ++ tableFrom (taken b) (b .before .before .before .before .before .before .loop .k) r (tableOf (drop (s b) (b .before .before .before .before .before .before .loop .t)))) (rows-are b)
+      ∙ table-turn (taken b) (b .before .before .before .before .before .before .loop .k) (b .before .before .before .before .before .before .loop .t) (s b) (inside b) (row b) (rest b) w more k e same count
+
+  counter-left : newCounter (b .before .before .before .before .before .before .before .before .args .counter) (rowsFrom 4 (b .before .before .before .before .before .before .before .before .args .n) (fr b) 0) (tableOf (b .before .before .before .before .before .before .before .before .args .old)) ≡ counterFrom more k (rest b) (tableOf (drop (s b + 1) (set (b .before .before .before .before .before .before .loop .t) (s b) w)))
+  counter-left =
+      b .before .before .before .before .before .before .loop .inv .7 ∙ ap (λ r. counterFrom (taken b) (b .before .before .before .before .before .before .loop .k) r (tableOf (drop (s b) (b .before .before .before .before .before .before .loop .t)))) (rows-are b)
+      ∙ counter-turn (taken b) (b .before .before .before .before .before .before .loop .k) (b .before .before .before .before .before .before .loop .t) (s b) (inside b) (row b) (rest b) w more k same count
 
 ids-of-requires : tie.Need-ids-of-requires Inv-loop μ-loop
 ids-of-requires c κs = search needs
@@ -150,53 +212,34 @@ loop-less c = search needs
 
 loop-again : tie.Need-loop-again Inv-loop μ-loop
 loop-again c =
-    let st = c .before .before .before .before .before .before .before .before .before .before .before .before .before .before .before .before .before in
-    let l = c .before .before .before .before .before .before .before .before .before .before .before .before .before .before .before .loop in
-    let n = st .args .n in
-    let f = st .args .frame .now in
-    let T = take (l .m) (l .taken) in
-    let rest = rowsFrom 4 (n - (l .s + 1)) f (4 * (l .s + 1)) in
-    let k0 = getD f (4 * l .s) (pos 0) in
-    let k1 = getD f (4 * l .s + 1) (pos 0) in
-    let k2 = getD f (4 * l .s + 2) (pos 0) in
-    let k3 = getD f (4 * l .s + 3) (pos 0) in
-    let g = k0 ∷ k1 ∷ k2 ∷ k3 ∷ [] in
-    let was = getD (l .t) (l .s) blank in
-    let f0 : SFits w32 k0 = search needs in
-    let f1 : SFits w32 k1 = search needs in
-    let f2 : SFits w32 k2 = search needs in
-    let f3 : SFits w32 k3 = search needs in
-    let f4 : SFits w32 (was .id .0) = search needs in
-    let h : l .s < n = c .before .before .before .before .before .before .before .before .before .before .before .before .before .before .loop-test .taken in
-    let ht : l .s < length (l .t) = omega (arith, l .inv .3, st .pre .0) in
-    let rows : rowsFrom 4 (n - l .s) f (4 * l .s) ≡ g ∷ rest = rows-next 4 n (l .s) f h ∙ ap {B = List (List ℤ)} (λ r. r ∷ rest) (row-of-four f (4 * l .s)) in
-    let plain : (plainRow g && plainRows rest) ≡ true = sym (ap plainRows rows) ∙ l .inv .5 in
-    let begin : c .before .before .before .before .before .before .before .before .before .begins .result ≡ begun (fate k0 (was .id .0)) = rw (toZ-ofZ w32 k0 f0, toZ-ofZ w32 (was .id .0) f4) at (c .before .before .before .before .before .before .before .before .before .begins .ensures) in
-    let j = freeId T (l .k) in
-    let yes : begun (fate k0 (was .id .0)) ≡ true = sym begin ∙ c .before .before .before .before .before .before .before .before .if1 .taken in
-    let fit : l .m < length (l .taken) = omega (arith, l .inv .1, l .inv .4, st .pre .0) in
+    let b = c .before .before .before .before .before .before .before .before .before in
+    let l = b .before .before .before .before .before .before .loop in
+    let h : l .s < b .before .before .before .before .before .before .before .before .args .n = b .before .before .before .before .before .loop-test .taken in
+    let j = given b in
+    let f1 : SFits w32 (number 1 b) = search needs in
+    let f2 : SFits w32 (number 2 b) = search needs in
+    let f3 : SFits w32 (number 3 b) = search needs in
+    let yes : begun (becomes b) ≡ true = sym (begins-is b) ∙ c .before .before .before .before .before .before .before .before .if1 .taken in
     let id = c .before .before .before .before .before .id-of in
     let ji : c .before .before .before .before .before .before .choose .result ≡ j = c .before .before .before .before .before .before .choose .ensures .1 in
-    let small : c .before .before .before .before .before .before .choose .result < 65536 = c .before .before .before .before .before .before .choose .ensures .0 in
     let fi : SFits w32 (id .result) = search needs in
     let v : id .result ≡ pos j = id .ensures ∙ ap pos ji in
-    let w : c .before .contact .result ≡ held (pos j) k1 k2 k3 = rw (toZ-ofZ w32 (id .result) fi, toZ-ofZ w32 k1 f1, toZ-ofZ w32 k2 f2, toZ-ofZ w32 k3 f3, v) at (c .before .contact .ensures) in
-    let u : c .after .result ≡ next j = c .after .ensures ∙ ap next ji in
-    let W = c .before .contact .result in
-    let more : take (l .m + 1) (set (l .taken) (l .m) (pos j)) ≡ T ++ pos j ∷ [] = rw add-one (take-suc-set (l .taken) (l .m) (pos j) fit) in
-    let same : Same (takenAfter (fate k0 (was .id .0)) j T) (take (l .m + 1) (set (l .taken) (l .m) (pos j))) = rw (more, begun-taken (fate k0 (was .id .0)) j T yes) (same-last (pos j) T) in
-    let count : counterAfter (fate k0 (was .id .0)) j (l .k) ≡ c .after .result = begun-counter (fate k0 (was .id .0)) j (l .k) yes ∙ sym u in
-    let slot : slotOf W ≡ _ = ap slotOf w ∙ begun-slot was k1 k2 k3 j k0 yes (and-left (plainRow g) (plainRows rest) plain) in
-    let M = take (l .m + 1) (set (l .taken) (l .m) (pos j)) in
+    let w = c .before .contact .result in
+    let e : w ≡ held (pos j) (number 1 b) (number 2 b) (number 3 b) = rw (toZ-ofZ w32 (id .result) fi, toZ-ofZ w32 (number 1 b) f1, toZ-ofZ w32 (number 2 b) f2, toZ-ofZ w32 (number 3 b) f3, v) at (c .before .contact .ensures) in
+    let fit : l .m < length (l .taken) = omega (arith, l .inv .1, l .inv .4, b .before .before .before .before .before .before .before .before .pre .0) in
+    let more = take (l .m + 1) (set (l .taken) (l .m) (pos j)) in
+    let last : more ≡ taken b ++ pos j ∷ [] = rw add-one (take-suc-set (l .taken) (l .m) (pos j) fit) in
+    let same : Same (takenAfter (becomes b) j (taken b)) more = rw (last, begun-taken (becomes b) j (taken b) yes) (same-last (pos j) (taken b)) in
+    let count : counterAfter (becomes b) j (l .k) ≡ c .after .result = begun-counter (becomes b) j (l .k) yes ∙ sym (c .after .ensures ∙ ap next ji) in
     rw (toZ-ofZ w32 (id .result) fi, v) (
       omega arith,
       omega (arith, l .inv .1),
       omega (arith, c .after .ensures),
-      length-set (l .t) (l .s) W ∙ l .inv .3,
+      length-set (l .t) (l .s) w ∙ l .inv .3,
       length-set (l .taken) (l .m) (pos j) ∙ l .inv .4,
-      and-right (plainRow g) (plainRows rest) plain,
-      l .inv .6 ∙ ap (λ r. tableOf (take (l .s) (l .t)) ++ tableFrom T (l .k) r (tableOf (drop (l .s) (l .t)))) rows ∙ table-turn T (l .k) (l .t) (l .s) ht g rest W M (c .after .result) slot same count,
-      l .inv .7 ∙ ap (λ r. counterFrom T (l .k) r (tableOf (drop (l .s) (l .t)))) rows ∙ counter-turn T (l .k) (l .t) (l .s) ht g rest W M (c .after .result) same count,
+      and-right (plainRow (row b)) (plainRows (rest b)) (plain b),
+      table-left b w more (c .after .result) same count (ap slotOf e ∙ begun-slot (was b) (number 1 b) (number 2 b) (number 3 b) j (kind b) yes (and-left (plainRow (row b)) (plainRows (rest b)) (plain b))),
+      counter-left b w more (c .after .result) same count,
     )
 
 add-stays : tie.Need-add-stays Inv-loop μ-loop
@@ -243,43 +286,26 @@ loop-less-2 c = search needs
 
 loop-again-2 : tie.Need-loop-again-2 Inv-loop μ-loop
 loop-again-2 c =
-    let st = c .before .before .before .before .before .before .before .before .before .before .before .before .before in
-    let l = c .before .before .before .before .before .before .before .before .before .before .before .loop in
-    let n = st .args .n in
-    let f = st .args .frame .now in
-    let T = take (l .m) (l .taken) in
-    let rest = rowsFrom 4 (n - (l .s + 1)) f (4 * (l .s + 1)) in
-    let k0 = getD f (4 * l .s) (pos 0) in
-    let k1 = getD f (4 * l .s + 1) (pos 0) in
-    let k2 = getD f (4 * l .s + 2) (pos 0) in
-    let k3 = getD f (4 * l .s + 3) (pos 0) in
-    let g = k0 ∷ k1 ∷ k2 ∷ k3 ∷ [] in
-    let was = getD (l .t) (l .s) blank in
-    let f0 : SFits w32 k0 = search needs in
-    let f1 : SFits w32 k1 = search needs in
-    let f2 : SFits w32 k2 = search needs in
-    let f3 : SFits w32 k3 = search needs in
-    let f4 : SFits w32 (was .id .0) = search needs in
-    let h : l .s < n = c .before .before .before .before .before .before .before .before .before .before .loop-test .taken in
-    let ht : l .s < length (l .t) = omega (arith, l .inv .3, st .pre .0) in
-    let rows : rowsFrom 4 (n - l .s) f (4 * l .s) ≡ g ∷ rest = rows-next 4 n (l .s) f h ∙ ap {B = List (List ℤ)} (λ r. r ∷ rest) (row-of-four f (4 * l .s)) in
-    let plain : (plainRow g && plainRows rest) ≡ true = sym (ap plainRows rows) ∙ l .inv .5 in
-    let begin : c .before .before .before .before .before .begins .result ≡ begun (fate k0 (was .id .0)) = rw (toZ-ofZ w32 k0 f0, toZ-ofZ w32 (was .id .0) f4) at (c .before .before .before .before .before .begins .ensures) in
-    let j = freeId T (l .k) in
-    let no : begun (fate k0 (was .id .0)) ≡ false = sym begin ∙ c .before .before .before .before .if1 .left in
-    let w : c .stays .result ≡ stayed (eqZ k0 (pos 0)) was k1 k2 k3 = rw (toZ-ofZ w32 k0 f0, toZ-ofZ w32 k1 f1, toZ-ofZ w32 k2 f2, toZ-ofZ w32 k3 f3) at (c .stays .ensures) in
-    let W = c .stays .result in
-    let same : Same (takenAfter (fate k0 (was .id .0)) j T) T = rw (stayed-taken (fate k0 (was .id .0)) j T no) (λ i. refl) in
-    let count : counterAfter (fate k0 (was .id .0)) j (l .k) ≡ l .k = stayed-counter (fate k0 (was .id .0)) j (l .k) no in
-    let slot : slotOf W ≡ _ = ap slotOf w ∙ stayed-slot was k1 k2 k3 j k0 no (and-left (plainRow g) (plainRows rest) plain) in (
+    let b = c .before .before .before .before .before in
+    let l = b .before .before .before .before .before .before .loop in
+    let h : l .s < b .before .before .before .before .before .before .before .before .args .n = b .before .before .before .before .before .loop-test .taken in
+    let f0 : SFits w32 (kind b) = search needs in
+    let f1 : SFits w32 (number 1 b) = search needs in
+    let f2 : SFits w32 (number 2 b) = search needs in
+    let f3 : SFits w32 (number 3 b) = search needs in
+    let no : begun (becomes b) ≡ false = sym (begins-is b) ∙ c .before .before .before .before .if1 .left in
+    let w = c .stays .result in
+    let e : w ≡ stayed (eqZ (kind b) (pos 0)) (was b) (number 1 b) (number 2 b) (number 3 b) = rw (toZ-ofZ w32 (kind b) f0, toZ-ofZ w32 (number 1 b) f1, toZ-ofZ w32 (number 2 b) f2, toZ-ofZ w32 (number 3 b) f3) at (c .stays .ensures) in
+    let same : Same (takenAfter (becomes b) (given b) (taken b)) (taken b) = rw (stayed-taken (becomes b) (given b) (taken b) no) (λ i. refl) in
+    let count : counterAfter (becomes b) (given b) (l .k) ≡ l .k = stayed-counter (becomes b) (given b) (l .k) no in (
       omega arith,
       omega (arith, l .inv .1),
       l .inv .2,
-      length-set (l .t) (l .s) W ∙ l .inv .3,
+      length-set (l .t) (l .s) w ∙ l .inv .3,
       l .inv .4,
-      and-right (plainRow g) (plainRows rest) plain,
-      l .inv .6 ∙ ap (λ r. tableOf (take (l .s) (l .t)) ++ tableFrom T (l .k) r (tableOf (drop (l .s) (l .t)))) rows ∙ table-turn T (l .k) (l .t) (l .s) ht g rest W T (l .k) slot same count,
-      l .inv .7 ∙ ap (λ r. counterFrom T (l .k) r (tableOf (drop (l .s) (l .t)))) rows ∙ counter-turn T (l .k) (l .t) (l .s) ht g rest W T (l .k) same count,
+      and-right (plainRow (row b)) (plainRows (rest b)) (plain b),
+      table-left b w (taken b) (l .k) same count (ap slotOf e ∙ stayed-slot (was b) (number 1 b) (number 2 b) (number 3 b) (given b) (kind b) no (and-left (plainRow (row b)) (plainRows (rest b)) (plain b))),
+      counter-left b w (taken b) (l .k) same count,
     )
 
 returns : tie.Need-returns Inv-loop μ-loop

@@ -1,9 +1,8 @@
 -- `send::put_two` writes two numbers, one after the other. Assumes nothing.
-use mathlib.Core.Path.{_≡_, refl, sym, ap, _∙_}
-use mathlib.Core.List.{List, [], _∷_, _++_}
-use Prim.Native.Nat.{ℕ, _≤_}
+use mathlib.Core.List.{List}
+use Prim.Native.Nat.{ℕ}
 use native.Mathlib.Omega.{arith}
-use lib.ListN.{length, length-append}
+use lib.ListN.{length-append}
 use Rattle.records.proofs.Over.{two-start, two-room, two-put, two-sum}
 use Rattle.send.specs.Sent.{numberBytes}
 use borrow.Author.Needs.{needs}

@@ -1,6 +1,6 @@
 -- `send::send_frame` writes the current slot's changes, those of the others and the report. The loop has written the slots whose bits m no longer has; what is left to lay over b from `end` on is m's, and the report. Assumes nothing.
 use borrow.Author.Needs.{needs}
-use mathlib.Core.Path.{_≡_, refl, sym, ap, ap₂, _∙_}
+use mathlib.Core.Path.{_≡_, refl, sym, ap, _∙_}
 use mathlib.Core.List.{List, [], _∷_, _++_, append-assoc}
 use Prim.Native.Nat.{ℕ, _<_, _≤_, _+_, _-_, _%_}
 use native.Mathlib.Omega.{arith}

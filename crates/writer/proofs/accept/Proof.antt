@@ -1,19 +1,19 @@
 -- `writer::accept` writes a good frame, or refuses it for want of room. Assumes nothing.
-use mathlib.Core.Path.{_≡_, refl, ap, ap₂, _∙_}
+use mathlib.Core.Path.{_≡_, ap, ap₂, _∙_}
 use mathlib.Core.Bool.{cond}
 use mathlib.Core.List.{List}
-use Prim.Native.Nat.{ℕ, _<_, _+_, _*_, _-_, _^_}
+use Prim.Native.Nat.{ℕ, _+_}
 use native.Mathlib.Omega.{arith}
 use lib.Count.{ones}
 use lib.Dec.{eqb}
 use lib.ListN.{length}
 use Rattle.model.specs.Table as T
 use Rattle.model.specs.Frame.{rowsOf, newTable, newCounter}
-use Rattle.model.specs.Sending.{oneUnless, sameSlot, changedNumbers, changedMask, fewest}
+use Rattle.model.specs.Sending.{changedNumbers, changedMask, fewest}
 use Rattle.model.specs.Order.{othersMask}
 use Rattle.model.proofs.Order.{others-ones}
 use Rattle.panel.specs.declared.Slot.{Slot}
-use Rattle.panel.specs.Seen.{slotOf, tableOf, panelSeen}
+use Rattle.panel.specs.Seen.{tableOf, panelSeen}
 use Rattle.panel.proofs.Tables.{unmapped}
 use Rattle.plan.proofs.Turn.{good-plain}
 use Rattle.writer.specs.declared.WriterState.{WriterState}
