@@ -293,6 +293,7 @@ fn frames(what: &str) -> Vec<Vec<i32>> {
 fn main() {
     let args: Vec<String> = std::env::args().collect();
     let (who, what, rounds) = (args[1].as_str(), args[2].as_str(), args[3].parse::<usize>().unwrap());
+    let check = args.len() > 4;
     let all = frames(what);
     let fresh = State { setup: Setup { n: 16, x: 4000, y: 4000, pressure: 255 }, table: [UNUSED; RECORDS], current: 0, counter: 0 };
     let mut state = [0u8; PACKED];
@@ -303,7 +304,10 @@ fn main() {
     for _ in 0..rounds {
         for f in &all[1..] {
             let r = call(black_box(who), &mut state, black_box(f), black_box(&mut buf));
-            sum = sum.wrapping_mul(31).wrapping_add(r).wrapping_add(buf[12] as u64);
+            sum = sum.wrapping_mul(31).wrapping_add(r);
+            if check {
+                sum = buf.iter().fold(sum, |a, b| a.wrapping_mul(31).wrapping_add(*b as u64));
+            }
         }
     }
     println!("{sum} {}", state.iter().fold(0u64, |a, b| a.wrapping_mul(31).wrapping_add(*b as u64)));
