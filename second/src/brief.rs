@@ -38,9 +38,7 @@ fn expand_line(line: &str) -> Result<String, String> {
             let (times, after) = match after.strip_prefix('*') {
                 Some(counted) => {
                     let (count, after) = counted.split_once(' ').unwrap_or((counted, ""));
-                    let times: usize = count
-                        .parse()
-                        .map_err(|_| format!("'{count}' is no count"))?;
+                    let times: usize = count.parse().map_err(|_| format!("'{count}' is no count"))?;
                     (times, after)
                 }
                 None => (1, after),
@@ -62,10 +60,7 @@ fn expand_line(line: &str) -> Result<String, String> {
 fn expand_table(inside: &str, out: &mut Vec<String>) -> Result<(), String> {
     let numbers: Vec<&str> = inside.split_whitespace().collect();
     if numbers.len() % 4 != 0 || numbers.len() > 4 * SLOTS {
-        return Err(format!(
-            "a table of {} numbers: four a slot, at most 64",
-            numbers.len()
-        ));
+        return Err(format!("a table of {} numbers: four a slot, at most 64", numbers.len()));
     }
     out.extend(numbers.iter().map(|number| number.to_string()));
     for _ in numbers.len() / 4..SLOTS {
@@ -92,32 +87,21 @@ pub fn shorten(call: &Call) -> String {
         Call::One { reader, .. } | Call::Load { reader, .. } | Call::Ask { reader, .. } => {
             join(short_reader(&words, reader), &words[135..])
         }
-        Call::Write { writer, .. } => join(
-            format!("{} {}", words[..7].join(" "), short_table(&writer.table)),
-            &words[71..],
-        ),
+        Call::Write { writer, .. } => {
+            join(format!("{} {}", words[..7].join(" "), short_table(&writer.table)), &words[71..])
+        }
         Call::Fresh(_) | Call::New(_) | Call::Pod { .. } => long,
     }
 }
 
 fn short_reader(words: &[&str], reader: &Reader) -> String {
-    format!(
-        "{} {} {}",
-        words[..7].join(" "),
-        short_table(&reader.shown),
-        short_table(&reader.pending)
-    )
+    format!("{} {} {}", words[..7].join(" "), short_table(&reader.shown), short_table(&reader.pending))
 }
 
 fn short_table(table: &Table) -> String {
-    let used = table
-        .iter()
-        .rposition(|slot| *slot != Slot::UNUSED)
-        .map_or(0, |last| last + 1);
-    let slots: Vec<String> = table[..used]
-        .iter()
-        .map(|slot| format!("{} {} {} {}", slot.id.0, slot.x, slot.y, slot.pressure))
-        .collect();
+    let used = table.iter().rposition(|slot| *slot != Slot::UNUSED).map_or(0, |last| last + 1);
+    let slots: Vec<String> =
+        table[..used].iter().map(|slot| format!("{} {} {} {}", slot.id.0, slot.x, slot.y, slot.pressure)).collect();
     format!("[{}]", slots.join("  "))
 }
 

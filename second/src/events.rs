@@ -22,23 +22,11 @@ pub struct Event {
 }
 
 impl Event {
-    pub const REPORT: Event = Event {
-        kind: EV_SYN,
-        code: SYN_REPORT,
-        value: 0,
-    };
-    pub const DROPPED: Event = Event {
-        kind: EV_SYN,
-        code: SYN_DROPPED,
-        value: 0,
-    };
+    pub const REPORT: Event = Event { kind: EV_SYN, code: SYN_REPORT, value: 0 };
+    pub const DROPPED: Event = Event { kind: EV_SYN, code: SYN_DROPPED, value: 0 };
 
     pub fn abs(code: u16, value: i32) -> Event {
-        Event {
-            kind: EV_ABS,
-            code,
-            value,
-        }
+        Event { kind: EV_ABS, code, value }
     }
 
     pub fn from_bytes(bytes: [u8; RECORD]) -> Event {
@@ -78,11 +66,7 @@ mod tests {
         assert_eq!(Event::from_bytes(event.to_bytes()), event);
         assert_eq!(
             Event::from_bytes([1, 2, 3, 4, 5, 6, 7, 8]),
-            Event {
-                kind: 0x0201,
-                code: 0x0403,
-                value: 0x0807_0605
-            }
+            Event { kind: 0x0201, code: 0x0403, value: 0x0807_0605 }
         );
     }
 }

@@ -86,33 +86,22 @@ fn run(words: &[&str], out: &mut impl Write) -> Result<(), Failure> {
             let missing = tally.missing();
             if !missing.is_empty() {
                 out.flush()?;
-                return Err(Failure::Words(format!(
-                    "never seen: {}",
-                    missing.join("; ")
-                )));
+                return Err(Failure::Words(format!("never seen: {}", missing.join("; "))));
             }
         }
         ["differ", script, answers] => differ(&file(script)?, &file(answers)?, out)?,
         ["smaller"] => {
             let script = input()?;
-            let line = script
-                .lines()
-                .find(|line| !is_passed_over(line.as_bytes()))
-                .unwrap_or("");
+            let line = script.lines().find(|line| !is_passed_over(line.as_bytes())).unwrap_or("");
             // A line that is no call has nothing to make smaller.
-            for call in Call::parse(line.as_bytes())
-                .iter()
-                .flat_map(smaller::smaller)
-            {
+            for call in Call::parse(line.as_bytes()).iter().flat_map(smaller::smaller) {
                 writeln!(out, "{}", call.line())?;
             }
         }
         ["brief"] => {
             for line in input()?.lines() {
                 match Call::parse(line.as_bytes()) {
-                    Some(call) if !is_passed_over(line.as_bytes()) => {
-                        writeln!(out, "{}", brief::shorten(&call))?
-                    }
+                    Some(call) if !is_passed_over(line.as_bytes()) => writeln!(out, "{}", brief::shorten(&call))?,
                     _ => writeln!(out, "{line}")?,
                 }
             }
@@ -124,9 +113,7 @@ fn run(words: &[&str], out: &mut impl Write) -> Result<(), Failure> {
         }
         ["records", "encode"] => out.write_all(&records::encode(&input()?)?)?,
         ["records", "decode"] => out.write_all(records::decode(&bytes()?, false).as_bytes())?,
-        ["records", "decode", "frames"] => {
-            out.write_all(records::decode(&bytes()?, true).as_bytes())?
-        }
+        ["records", "decode", "frames"] => out.write_all(records::decode(&bytes()?, true).as_bytes())?,
         ["noise", program, seed, index] => {
             let bytes = noise::noise(program, number(seed)?, number(index)?);
             out.write_all(&bytes.ok_or_else(|| format!("no program {program}"))?)?;
@@ -161,15 +148,12 @@ fn differ(script: &str, answers: &str, out: &mut impl Write) -> Result<(), Failu
     }
     match answers.next() {
         None => Ok(()),
-        Some(more) => Err(Failure::Words(format!(
-            "more answers than the {calls} calls; the first is '{more}'"
-        ))),
+        Some(more) => Err(Failure::Words(format!("more answers than the {calls} calls; the first is '{more}'"))),
     }
 }
 
 fn number(word: &str) -> Result<u64, Failure> {
-    word.parse()
-        .map_err(|_| Failure::Words(format!("'{word}' is no number")))
+    word.parse().map_err(|_| Failure::Words(format!("'{word}' is no number")))
 }
 
 /// Answers that are no text are to be shown as a difference, not to stop the comparison.
@@ -179,8 +163,7 @@ fn file(name: &str) -> Result<String, Failure> {
 }
 
 fn input() -> Result<String, Failure> {
-    String::from_utf8(bytes()?)
-        .map_err(|error| Failure::Words(format!("standard input is no text: {error}")))
+    String::from_utf8(bytes()?).map_err(|error| Failure::Words(format!("standard input is no text: {error}")))
 }
 
 fn bytes() -> Result<Vec<u8>, Failure> {

@@ -14,41 +14,26 @@ const LONGEST: u64 = 5_000;
 pub fn noise(program: &str, seed: u64, index: u64) -> Option<Vec<u8>> {
     let mut maker = Maker::new(seed ^ index.wrapping_mul(0xD6E8_FEB8_6659_FD93));
     let (shape, turn) = (index % 4, index / 4);
-    let length = if turn % 2 == 0 && turn / 2 < EACH_LENGTH {
-        turn / 2
-    } else {
-        maker.random.below(LONGEST)
-    } as usize;
+    let length = if turn % 2 == 0 && turn / 2 < EACH_LENGTH { turn / 2 } else { maker.random.below(LONGEST) } as usize;
     let mut bytes = Vec::new();
     match program {
         "show_pod" => {
             let mut pod = Pod::FRESH;
             while bytes.len() < length {
-                let byte = if shape == 0 {
-                    maker.random.word() as u8
-                } else {
-                    maker.pod_byte(pod)
-                };
-                pod.take(byte)
-                    .expect("a pod that began fresh is well formed");
+                let byte = if shape == 0 { maker.random.word() as u8 } else { maker.pod_byte(pod) };
+                pod.take(byte).expect("a pod that began fresh is well formed");
                 bytes.push(byte);
             }
         }
         "show_table" | "write_frames" => {
-            let setup = if shape == 3 {
-                maker.any_setup()
-            } else {
-                maker.setup()
-            };
+            let setup = if shape == 3 { maker.any_setup() } else { maker.setup() };
             if shape > 0 {
                 bytes.extend(header(&setup));
             }
             let good = setup.is_good().then_some(setup);
             while bytes.len() < length {
                 match good {
-                    Some(setup) if shape > 1 => {
-                        likely(program, &mut maker, setup, &mut bytes, length)
-                    }
+                    Some(setup) if shape > 1 => likely(program, &mut maker, setup, &mut bytes, length),
                     _ => bytes.push(maker.random.word() as u8),
                 }
             }
@@ -61,15 +46,10 @@ pub fn noise(program: &str, seed: u64, index: u64) -> Option<Vec<u8>> {
 
 /// More than the low 32 bits of n does not fit a header; the cut number is then as good a header as another.
 fn header(setup: &Setup) -> Vec<u8> {
-    [
-        setup.slots as u32,
-        setup.largest_x,
-        setup.largest_y,
-        setup.largest_pressure,
-    ]
-    .iter()
-    .flat_map(|number| number.to_le_bytes())
-    .collect()
+    [setup.slots as u32, setup.largest_x, setup.largest_y, setup.largest_pressure]
+        .iter()
+        .flat_map(|number| number.to_le_bytes())
+        .collect()
 }
 
 /// Records or frames that are mostly good, until there are enough bytes.
@@ -80,9 +60,7 @@ fn likely(program: &str, maker: &mut Maker, setup: Setup, bytes: &mut Vec<u8>, l
         while bytes.len() < length {
             let rough = rough && maker.random.once_in(30);
             let event = maker.event(&reader, rough);
-            reader
-                .one(event)
-                .expect("a reader that began fresh is well formed");
+            reader.one(event).expect("a reader that began fresh is well formed");
             bytes.extend(event.to_bytes());
         }
     } else {
@@ -107,9 +85,8 @@ mod tests {
     #[test]
     fn lengths_and_names() {
         for program in ["show_table", "write_frames", "show_pod"] {
-            let lengths: Vec<u64> = (0..8 * EACH_LENGTH)
-                .map(|index| noise(program, 5, index).unwrap().len() as u64)
-                .collect();
+            let lengths: Vec<u64> =
+                (0..8 * EACH_LENGTH).map(|index| noise(program, 5, index).unwrap().len() as u64).collect();
             for length in 0..EACH_LENGTH {
                 assert!(lengths.contains(&length));
             }

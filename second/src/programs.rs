@@ -28,11 +28,7 @@ fn header(bytes: &[u8]) -> Option<Setup> {
     })
 }
 
-pub fn show_table(
-    mut input: impl Read,
-    mut out: impl Write,
-    mut err: impl Write,
-) -> io::Result<()> {
+pub fn show_table(mut input: impl Read, mut out: impl Write, mut err: impl Write) -> io::Result<()> {
     let mut bytes = Vec::new();
     // What was read before a failure stays in `bytes`.
     let failed = input.read_to_end(&mut bytes).err();
@@ -51,11 +47,7 @@ pub fn show_table(
             if reader.mode == Mode::Following {
                 let used = &reader.shown[..reader.setup.slots as usize];
                 for (s, slot) in used.iter().enumerate() {
-                    writeln!(
-                        out,
-                        "{s} {} {} {} {}",
-                        slot.id.0, slot.x, slot.y, slot.pressure
-                    )?;
+                    writeln!(out, "{s} {} {} {} {}", slot.id.0, slot.x, slot.y, slot.pressure)?;
                 }
             }
         }
@@ -73,11 +65,7 @@ fn table_after(bytes: &[u8], failed: bool) -> Result<Reader, Refusal> {
     Ok(reader)
 }
 
-pub fn write_frames(
-    mut input: impl Read,
-    mut out: impl Write,
-    mut err: impl Write,
-) -> io::Result<()> {
+pub fn write_frames(mut input: impl Read, mut out: impl Write, mut err: impl Write) -> io::Result<()> {
     let mut bytes = Vec::new();
     input.read_to_end(&mut bytes)?;
     let made = header(&bytes).ok_or(Refusal::Setup).and_then(Writer::fresh);
@@ -91,10 +79,7 @@ pub fn write_frames(
     let frame_bytes = 16 * writer.setup.slots as usize;
     for (k, part) in bytes[HEADER..].chunks(frame_bytes).enumerate() {
         frame.clear();
-        frame.extend(
-            part.chunks_exact(4)
-                .map(|b| i32::from_le_bytes([b[0], b[1], b[2], b[3]])),
-        );
+        frame.extend(part.chunks_exact(4).map(|b| i32::from_le_bytes([b[0], b[1], b[2], b[3]])));
         // A last frame that is cut has too few whole numbers, and so is refused with 3.
         match writer.write(&frame, &mut buffer, 0) {
             Ok(written) => out.write_all(&buffer[..written.events as usize * RECORD])?,
@@ -109,9 +94,7 @@ pub fn show_pod(mut input: impl Read, mut out: impl Write) -> io::Result<()> {
     input.read_to_end(&mut bytes)?;
     let mut pod = Pod::FRESH;
     for byte in bytes {
-        let report = pod
-            .take(byte)
-            .expect("a pod that began fresh is well formed");
+        let report = pod.take(byte).expect("a pod that began fresh is well formed");
         if pod.held == 0 {
             writeln!(out, "{}", words(report))?;
         }
@@ -138,10 +121,7 @@ mod tests {
         let (mut out, mut err) = (Vec::new(), Vec::new());
         let bytes = encode(text).unwrap();
         write_frames(&bytes[..], &mut out, &mut err).unwrap();
-        (
-            crate::records::decode(&out, false),
-            String::from_utf8(err).unwrap(),
-        )
+        (crate::records::decode(&out, false), String::from_utf8(err).unwrap())
     }
 
     #[test]
@@ -151,18 +131,12 @@ mod tests {
             "following 0\n0 0 100 200 30\n1 -1 0 0 0\n"
         );
         assert_eq!(table(""), "refused 1\n");
-        assert_eq!(
-            table("BYTES 01 00 00 00 01 00 00 00 01 00 00 00 01 00 00"),
-            "refused 1\n"
-        );
+        assert_eq!(table("BYTES 01 00 00 00 01 00 00 00 01 00 00 00 01 00 00"), "refused 1\n");
         assert_eq!(table("SETUP 17 1 1 1\nBYTES 00"), "refused 1\n");
         assert_eq!(table("SETUP 1 2147483649 1 1"), "refused 1\n");
         assert_eq!(table("SETUP 1 1 1 1\nBYTES 00"), "refused 6\n");
         // The current slot is the one last set, reported or not.
-        assert_eq!(
-            table("SETUP 2 9 9 9\nSLOT 1\nX 3\n"),
-            "following 1\n0 -1 0 0 0\n1 -1 0 0 0\n"
-        );
+        assert_eq!(table("SETUP 2 9 9 9\nSLOT 1\nX 3\n"), "following 1\n0 -1 0 0 0\n1 -1 0 0 0\n");
         assert_eq!(table("SETUP 2 9 9 9\nSLOT 1\nDROPPED\n"), "dropped 1\n");
         assert_eq!(table("SETUP 2 9 9 9\nSLOT 2\nREPORT\n"), "stale 0\n");
     }
@@ -190,22 +164,10 @@ mod tests {
         let (out, err) = frames(
             "SETUP 1 9 9 9\nFRAME 1 1 2 3\nFRAME 3 0 0 0\nFRAME 1 10 0 0\nFRAME 1 1 2 4\nFRAME 0 -7 0 0\nBYTES 01 00 00 00 05",
         );
-        assert_eq!(
-            out,
-            "SETUP 1 9 9 9\nID 0\nX 1\nY 2\nPRESSURE 3\nREPORT\nPRESSURE 4\nREPORT\nID -1\nREPORT\n"
-        );
-        assert_eq!(
-            err,
-            "frame 2 refused 4\nframe 3 refused 4\nframe 6 refused 3\n"
-        );
-        assert_eq!(
-            frames("SETUP 0 9 9 9\n"),
-            (String::new(), "refused 1\n".to_string())
-        );
-        assert_eq!(
-            frames("BYTES 01"),
-            (String::new(), "refused 1\n".to_string())
-        );
+        assert_eq!(out, "SETUP 1 9 9 9\nID 0\nX 1\nY 2\nPRESSURE 3\nREPORT\nPRESSURE 4\nREPORT\nID -1\nREPORT\n");
+        assert_eq!(err, "frame 2 refused 4\nframe 3 refused 4\nframe 6 refused 3\n");
+        assert_eq!(frames("SETUP 0 9 9 9\n"), (String::new(), "refused 1\n".to_string()));
+        assert_eq!(frames("BYTES 01"), (String::new(), "refused 1\n".to_string()));
     }
 
     #[test]
@@ -219,8 +181,8 @@ mod tests {
     fn pod_lines() {
         let mut out = Vec::new();
         let bytes = [
-            0x75, 0xF5, 0x00, 0xF8, 0x80, 0x7F, 0xFE, 0x81, 0xFF, 0x10, 0xF7, 0x05, 0x01, 0x2C,
-            0x00, 0xC8, 0xFD, 0x00, 0x81, 0xFF, 0x0F, 0xF7, 0x10,
+            0x75, 0xF5, 0x00, 0xF8, 0x80, 0x7F, 0xFE, 0x81, 0xFF, 0x10, 0xF7, 0x05, 0x01, 0x2C, 0x00, 0xC8, 0xFD, 0x00,
+            0x81, 0xFF, 0x0F, 0xF7, 0x10,
         ];
         show_pod(&bytes[..], &mut out).unwrap();
         assert_eq!(

@@ -43,13 +43,7 @@ impl Reader {
         if !setup.is_good() {
             return Err(Refusal::Setup);
         }
-        Ok(Reader {
-            setup,
-            current: SlotNumber(0),
-            mode: Mode::Following,
-            shown: EMPTY,
-            pending: EMPTY,
-        })
+        Ok(Reader { setup, current: SlotNumber(0), mode: Mode::Following, shown: EMPTY, pending: EMPTY })
     }
 
     pub fn is_well_formed(&self) -> bool {
@@ -115,11 +109,7 @@ impl Reader {
             return Ok(Asked::Unknown);
         }
         let shown = self.shown[slot.0 as usize];
-        Ok(if shown.id.is_live() {
-            Asked::Contact(shown)
-        } else {
-            Asked::Empty
-        })
+        Ok(if shown.id.is_live() { Asked::Contact(shown) } else { Asked::Empty })
     }
 
     #[inline]
@@ -145,14 +135,11 @@ impl Reader {
     fn follow(&mut self, event: Event, counts: &mut Counts) {
         let slot = &mut self.pending[self.current.0 as usize];
         let taken = match (event.kind, event.code) {
-            (EV_ABS, ABS_MT_POSITION_X) => {
-                in_range(event.value, self.setup.largest_x).map(|x| slot.x = x)
+            (EV_ABS, ABS_MT_POSITION_X) => in_range(event.value, self.setup.largest_x).map(|x| slot.x = x),
+            (EV_ABS, ABS_MT_POSITION_Y) => in_range(event.value, self.setup.largest_y).map(|y| slot.y = y),
+            (EV_ABS, ABS_MT_PRESSURE) => {
+                in_range(event.value, self.setup.largest_pressure).map(|pressure| slot.pressure = pressure)
             }
-            (EV_ABS, ABS_MT_POSITION_Y) => {
-                in_range(event.value, self.setup.largest_y).map(|y| slot.y = y)
-            }
-            (EV_ABS, ABS_MT_PRESSURE) => in_range(event.value, self.setup.largest_pressure)
-                .map(|pressure| slot.pressure = pressure),
             (EV_ABS, ABS_MT_TRACKING_ID) => id_in_range(event.value).map(|id| slot.id = id),
             (EV_ABS, ABS_MT_SLOT) => in_range(event.value, self.setup.slots as u32 - 1)
                 .map(|number| self.current = SlotNumber(u64::from(number))),

@@ -20,15 +20,8 @@ pub fn event(words: &[&str]) -> Result<Event, String> {
     match words {
         ["REPORT"] => Ok(Event::REPORT),
         ["DROPPED"] => Ok(Event::DROPPED),
-        ["REPORT" | "DROPPED", ..] => Err(format!(
-            "{} takes no number; EVENT gives any value",
-            words[0]
-        )),
-        ["EVENT", kind, code, value] => Ok(Event {
-            kind: half(kind)?,
-            code: half(code)?,
-            value: decimal(value)?,
-        }),
+        ["REPORT" | "DROPPED", ..] => Err(format!("{} takes no number; EVENT gives any value", words[0])),
+        ["EVENT", kind, code, value] => Ok(Event { kind: half(kind)?, code: half(code)?, value: decimal(value)? }),
         ["EVENT", ..] => Err("EVENT takes three numbers: type, code, value".to_string()),
         [name, rest @ ..] => match NAMES.iter().find(|(known, _)| known == name) {
             Some((_, code)) => match rest {
@@ -92,10 +85,7 @@ fn encode_line(
                 return Err("SETUP must come first".to_string());
             }
             if rest.len() != 4 {
-                return Err(
-                    "SETUP takes four numbers: n, largest x, largest y, largest pressure"
-                        .to_string(),
-                );
+                return Err("SETUP takes four numbers: n, largest x, largest y, largest pressure".to_string());
             }
             for word in rest {
                 bytes.extend(decimal::<u32>(word)?.to_le_bytes());
@@ -104,9 +94,9 @@ fn encode_line(
         }
         ["BYTES", rest @ ..] => {
             for word in rest {
-                let byte = u8::from_str_radix(word, 16).ok().filter(|_| {
-                    word.len() == 2 && word.bytes().all(|digit| digit.is_ascii_hexdigit())
-                });
+                let byte = u8::from_str_radix(word, 16)
+                    .ok()
+                    .filter(|_| word.len() == 2 && word.bytes().all(|digit| digit.is_ascii_hexdigit()));
                 bytes.push(byte.ok_or_else(|| format!("'{word}' is no byte of two hex digits"))?);
             }
         }
@@ -120,10 +110,7 @@ fn encode_line(
                 _ => rest.len() % 4 == 0,
             };
             if !good {
-                return Err(
-                    "FRAME takes four numbers (kind, x, y, pressure) for each of SETUP's slots"
-                        .to_string(),
-                );
+                return Err("FRAME takes four numbers (kind, x, y, pressure) for each of SETUP's slots".to_string());
             }
             for word in rest {
                 bytes.extend(decimal::<i32>(word)?.to_le_bytes());
@@ -198,14 +185,12 @@ fn put_bytes(text: &mut String, bytes: &[u8]) {
 }
 
 fn decimal<T: std::str::FromStr>(word: &str) -> Result<T, String> {
-    word.parse()
-        .map_err(|_| format!("'{word}' is no number that fits here"))
+    word.parse().map_err(|_| format!("'{word}' is no number that fits here"))
 }
 
 fn half(word: &str) -> Result<u16, String> {
     match word.strip_prefix("0x") {
-        Some(digits) => u16::from_str_radix(digits, 16)
-            .map_err(|_| format!("'{word}' is no 16-bit number in hex")),
+        Some(digits) => u16::from_str_radix(digits, 16).map_err(|_| format!("'{word}' is no 16-bit number in hex")),
         None => decimal(word),
     }
 }
@@ -221,10 +206,7 @@ mod tests {
         let bytes = encode(text).unwrap();
         assert_eq!(bytes.len(), 56);
         assert_eq!(bytes[16..24], [3, 0, 0x39, 0, 0, 0, 0, 0]);
-        assert_eq!(
-            decode(&bytes, false),
-            "SETUP 2 4000 4000 255\nID 0\nX 100\nY 200\nPRESSURE 30\nREPORT\n"
-        );
+        assert_eq!(decode(&bytes, false), "SETUP 2 4000 4000 255\nID 0\nX 100\nY 200\nPRESSURE 30\nREPORT\n");
     }
 
     #[test]

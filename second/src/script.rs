@@ -18,33 +18,12 @@ pub const BAD_LINE: &str = "bad line";
 pub enum Call {
     Fresh(Setup),
     New(Setup),
-    Run {
-        reader: Reader,
-        bytes: Vec<u8>,
-    },
-    One {
-        reader: Reader,
-        event: Event,
-    },
-    Load {
-        reader: Reader,
-        current: SlotNumber,
-        image: Vec<i32>,
-    },
-    Ask {
-        reader: Reader,
-        slot: SlotNumber,
-    },
-    Write {
-        writer: Writer,
-        position: u64,
-        size: usize,
-        frame: Vec<i32>,
-    },
-    Pod {
-        pod: Pod,
-        byte: u8,
-    },
+    Run { reader: Reader, bytes: Vec<u8> },
+    One { reader: Reader, event: Event },
+    Load { reader: Reader, current: SlotNumber, image: Vec<i32> },
+    Ask { reader: Reader, slot: SlotNumber },
+    Write { writer: Writer, position: u64, size: usize, frame: Vec<i32> },
+    Pod { pod: Pod, byte: u8 },
 }
 
 /// The marks that a buffer holds before a `write`.
@@ -77,10 +56,7 @@ impl Call {
         if line.len() > LONGEST_LINE {
             return None;
         }
-        let mut words = std::str::from_utf8(line)
-            .ok()?
-            .split(' ')
-            .filter(|word| !word.is_empty());
+        let mut words = std::str::from_utf8(line).ok()?.split(' ').filter(|word| !word.is_empty());
         let letter = *words.next()?.as_bytes().first()?;
         let mut numbers = Numbers(words.map(number).collect::<Option<Vec<_>>>()?.into_iter());
         if numbers.0.len() > MOST_NUMBERS {
@@ -89,39 +65,22 @@ impl Call {
         let call = match letter {
             b'f' => Call::Fresh(numbers.setup()?),
             b'n' => Call::New(numbers.setup()?),
-            b'r' => Call::Run {
-                reader: numbers.reader()?,
-                bytes: numbers.rest()?,
-            },
+            b'r' => Call::Run { reader: numbers.reader()?, bytes: numbers.rest()? },
             b'o' => Call::One {
                 reader: numbers.reader()?,
-                event: Event {
-                    kind: numbers.one()?,
-                    code: numbers.one()?,
-                    value: numbers.one()?,
-                },
+                event: Event { kind: numbers.one()?, code: numbers.one()?, value: numbers.one()? },
             },
-            b'l' => Call::Load {
-                reader: numbers.reader()?,
-                current: SlotNumber(numbers.one()?),
-                image: numbers.rest()?,
-            },
-            b'a' => Call::Ask {
-                reader: numbers.reader()?,
-                slot: SlotNumber(numbers.one()?),
-            },
+            b'l' => {
+                Call::Load { reader: numbers.reader()?, current: SlotNumber(numbers.one()?), image: numbers.rest()? }
+            }
+            b'a' => Call::Ask { reader: numbers.reader()?, slot: SlotNumber(numbers.one()?) },
             b'w' => Call::Write {
                 writer: numbers.writer()?,
                 position: numbers.one()?,
-                size: numbers
-                    .one::<usize>()
-                    .filter(|size| *size <= LARGEST_BUFFER)?,
+                size: numbers.one::<usize>().filter(|size| *size <= LARGEST_BUFFER)?,
                 frame: numbers.rest()?,
             },
-            b'p' => Call::Pod {
-                pod: numbers.pod()?,
-                byte: numbers.one()?,
-            },
+            b'p' => Call::Pod { pod: numbers.pod()?, byte: numbers.one()? },
             _ => return None,
         };
         numbers.0.next().is_none().then_some(call)
@@ -154,11 +113,7 @@ impl Call {
                 line.put(event.code);
                 line.put(event.value);
             }
-            Call::Load {
-                reader,
-                current,
-                image,
-            } => {
+            Call::Load { reader, current, image } => {
                 line.reader(reader);
                 line.put(current.0);
                 line.all(image);
@@ -167,12 +122,7 @@ impl Call {
                 line.reader(reader);
                 line.put(slot.0);
             }
-            Call::Write {
-                writer,
-                position,
-                size,
-                frame,
-            } => {
+            Call::Write { writer, position, size, frame } => {
                 line.writer(writer);
                 line.put(position);
                 line.put(size);
@@ -213,11 +163,7 @@ impl Call {
                 line.reader(&reader);
                 line.counts(counts.unwrap_or_default());
             }
-            Call::Load {
-                reader,
-                current,
-                image,
-            } => {
+            Call::Load { reader, current, image } => {
                 let mut reader = reader.clone();
                 let loaded = reader.load(image, *current);
                 line.verdict(&loaded);
@@ -233,12 +179,7 @@ impl Call {
                 Ok(Asked::NoSuchSlot) => line.put("none"),
                 Err(refusal) => line.refused(refusal),
             },
-            Call::Write {
-                writer,
-                position,
-                size,
-                frame,
-            } => {
+            Call::Write { writer, position, size, frame } => {
                 let mut writer = writer.clone();
                 let mut buffer = marks(*size);
                 let written = writer.write(frame, &mut buffer, *position);
@@ -272,16 +213,10 @@ pub fn words(report: Report) -> String {
         Report::Down(key) => format!("down {key}"),
         Report::Up(key) => format!("up {key}"),
         Report::Absolute { flags, x, y } => format!("absolute {flags} {x} {y}"),
-        Report::Relative {
-            left,
-            right,
-            dx,
-            dy,
-        } => format!("relative {} {} {dx} {dy}", left as u8, right as u8),
-        Report::Sticks(zero, one) => format!(
-            "sticks {} {} {} {}",
-            zero.trigger as u8, zero.position, one.trigger as u8, one.position
-        ),
+        Report::Relative { left, right, dx, dy } => format!("relative {} {} {dx} {dy}", left as u8, right as u8),
+        Report::Sticks(zero, one) => {
+            format!("sticks {} {} {} {}", zero.trigger as u8, zero.position, one.trigger as u8, one.position)
+        }
         Report::Stick { which, stick } => {
             format!("stick {which} {} {}", stick.trigger as u8, stick.position)
         }
@@ -296,9 +231,7 @@ fn number(word: &str) -> Option<i128> {
         return None;
     }
     let value = word.parse::<i128>().ok()?;
-    (i128::from(i64::MIN)..=i128::from(u64::MAX))
-        .contains(&value)
-        .then_some(value)
+    (i128::from(i64::MIN)..=i128::from(u64::MAX)).contains(&value).then_some(value)
 }
 
 /// The numbers of a line, taken from the front; `None` where one is missing or its type cannot hold it.
@@ -325,12 +258,7 @@ impl Numbers {
     fn table(&mut self) -> Option<Table> {
         let mut table = [Slot::default(); SLOTS];
         for slot in &mut table {
-            *slot = Slot {
-                id: TrackingId(self.one()?),
-                x: self.one()?,
-                y: self.one()?,
-                pressure: self.one()?,
-            };
+            *slot = Slot { id: TrackingId(self.one()?), x: self.one()?, y: self.one()?, pressure: self.one()? };
         }
         Some(table)
     }
@@ -360,10 +288,7 @@ impl Numbers {
     }
 
     fn pod(&mut self) -> Option<Pod> {
-        let mut pod = Pod {
-            held: self.one()?,
-            bytes: [0; 5],
-        };
+        let mut pod = Pod { held: self.one()?, bytes: [0; 5] };
         for byte in &mut pod.bytes {
             *byte = self.one()?;
         }
@@ -483,10 +408,7 @@ mod tests {
             answer(&format!("write 1 9 9 9 0 0 {table}0 4 0 0 0 0")),
             format!("0 1 9 9 9 0 0 {table}0 0 0 : 11 48 85 122")
         );
-        assert_eq!(
-            answer(&format!("write 1 9 9 9 0 0 {table}0 0 0 0 0 0")),
-            format!("0 1 9 9 9 0 0 {table}0 0 0 :")
-        );
+        assert_eq!(answer(&format!("write 1 9 9 9 0 0 {table}0 0 0 0 0 0")), format!("0 1 9 9 9 0 0 {table}0 0 0 :"));
     }
 
     #[test]
@@ -522,21 +444,13 @@ mod tests {
         assert_eq!(answer("pod 0 0 0 0 0 0 1"), "0 0 0 0 0 0 down 1");
         let full = 12_000 - 134;
         let table = UNUSED.repeat(16);
-        assert!(answer(&format!(
-            "r 1 9 9 9 0 0 {table}{table}{}",
-            "0 ".repeat(full)
-        ))
-        .starts_with("6 "));
+        assert!(answer(&format!("r 1 9 9 9 0 0 {table}{table}{}", "0 ".repeat(full))).starts_with("6 "));
     }
 
     #[test]
     fn passed_over() {
         let mut out = Vec::new();
-        answer_all(
-            &b"# a name\n\npod 0 0 0 0 0 0 0\npod 0 0 0 0 0 0 254"[..],
-            &mut out,
-        )
-        .unwrap();
+        answer_all(&b"# a name\n\npod 0 0 0 0 0 0 0\npod 0 0 0 0 0 0 254"[..], &mut out).unwrap();
         assert_eq!(out, b"0 0 0 0 0 0 bad byte\n1 254 0 0 0 0 more\n");
     }
 }

@@ -32,30 +32,19 @@ fn weight_of(call: &Call) -> (usize, usize, u64, usize) {
     let words = || line.split(' ').skip(1);
     let (size, slots) = match call {
         Call::Write { size, writer, .. } => (*size, writer.setup.slots),
-        Call::Run { reader, .. }
-        | Call::One { reader, .. }
-        | Call::Load { reader, .. }
-        | Call::Ask { reader, .. } => (0, reader.setup.slots),
+        Call::Run { reader, .. } | Call::One { reader, .. } | Call::Load { reader, .. } | Call::Ask { reader, .. } => {
+            (0, reader.setup.slots)
+        }
         Call::Fresh(_) | Call::New(_) | Call::Pod { .. } => (0, 0),
     };
-    (
-        words().count() + size,
-        words().filter(|word| !matches!(*word, "0" | "-1")).count(),
-        slots,
-        line.len(),
-    )
+    (words().count() + size, words().filter(|word| !matches!(*word, "0" | "-1")).count(), slots, line.len())
 }
 
 fn candidates(call: &Call, give: &mut dyn FnMut(Call)) {
     match call {
         Call::Fresh(_) | Call::New(_) | Call::Pod { .. } => {}
         Call::Run { reader, bytes } => {
-            smaller_readers(reader, &mut |reader| {
-                give(Call::Run {
-                    reader,
-                    bytes: bytes.clone(),
-                })
-            });
+            smaller_readers(reader, &mut |reader| give(Call::Run { reader, bytes: bytes.clone() }));
             for s in slots_of(&reader.setup) {
                 let ragged = bytes.chunks_exact(RECORD).remainder();
                 let events = events(bytes).flat_map(|event| event_without(event, s).to_bytes());
@@ -67,58 +56,26 @@ fn candidates(call: &Call, give: &mut dyn FnMut(Call)) {
             for part in parts(bytes.len(), RECORD) {
                 let mut bytes = bytes.clone();
                 bytes.drain(part);
-                give(Call::Run {
-                    reader: reader.clone(),
-                    bytes,
-                });
+                give(Call::Run { reader: reader.clone(), bytes });
             }
             if bytes.len() % RECORD > 1 {
-                give(Call::Run {
-                    reader: reader.clone(),
-                    bytes: bytes[..bytes.len() - 1].to_vec(),
-                });
+                give(Call::Run { reader: reader.clone(), bytes: bytes[..bytes.len() - 1].to_vec() });
             }
         }
         Call::One { reader, event } => {
-            smaller_readers(reader, &mut |reader| {
-                give(Call::One {
-                    reader,
-                    event: *event,
-                })
-            });
+            smaller_readers(reader, &mut |reader| give(Call::One { reader, event: *event }));
             for s in slots_of(&reader.setup) {
-                give(Call::One {
-                    reader: reader_without(reader, s),
-                    event: event_without(*event, s),
-                });
+                give(Call::One { reader: reader_without(reader, s), event: event_without(*event, s) });
             }
         }
         Call::Ask { reader, slot } => {
-            smaller_readers(reader, &mut |reader| {
-                give(Call::Ask {
-                    reader,
-                    slot: *slot,
-                })
-            });
+            smaller_readers(reader, &mut |reader| give(Call::Ask { reader, slot: *slot }));
             for s in slots_of(&reader.setup) {
-                give(Call::Ask {
-                    reader: reader_without(reader, s),
-                    slot: number_without(*slot, s),
-                });
+                give(Call::Ask { reader: reader_without(reader, s), slot: number_without(*slot, s) });
             }
         }
-        Call::Load {
-            reader,
-            current,
-            image,
-        } => {
-            smaller_readers(reader, &mut |reader| {
-                give(Call::Load {
-                    reader,
-                    current: *current,
-                    image: image.clone(),
-                })
-            });
+        Call::Load { reader, current, image } => {
+            smaller_readers(reader, &mut |reader| give(Call::Load { reader, current: *current, image: image.clone() }));
             for s in slots_of(&reader.setup) {
                 give(Call::Load {
                     reader: reader_without(reader, s),
@@ -127,24 +84,11 @@ fn candidates(call: &Call, give: &mut dyn FnMut(Call)) {
                 });
             }
             smaller_numbers(image, -1, &mut |image| {
-                give(Call::Load {
-                    reader: reader.clone(),
-                    current: *current,
-                    image,
-                })
+                give(Call::Load { reader: reader.clone(), current: *current, image })
             });
-            give(Call::Load {
-                reader: reader.clone(),
-                current: SlotNumber(0),
-                image: image.clone(),
-            });
+            give(Call::Load { reader: reader.clone(), current: SlotNumber(0), image: image.clone() });
         }
-        Call::Write {
-            writer,
-            position,
-            size,
-            frame,
-        } => {
+        Call::Write { writer, position, size, frame } => {
             let with = |position: u64, size: usize, frame: Vec<i32>| Call::Write {
                 writer: writer.clone(),
                 position,
@@ -167,33 +111,25 @@ fn candidates(call: &Call, give: &mut dyn FnMut(Call)) {
                 take_slot(&mut writer.table, s);
                 writer.setup.slots -= 1;
                 writer.current = number_without(writer.current, s);
-                give(Call::Write {
-                    writer,
-                    position: *position,
-                    size: *size,
-                    frame: numbers_without(frame, s),
-                });
+                give(Call::Write { writer, position: *position, size: *size, frame: numbers_without(frame, s) });
+            }
+            // A slot unused in table and frame alike stays quiet; in one of them alone it would begin or lift.
+            for s in 0..SLOTS.min(frame.len() / 4) {
+                let (mut writer, mut frame) = (writer.clone(), frame.clone());
+                writer.table[s] = Slot::UNUSED;
+                frame[4 * s..4 * s + 4].fill(0);
+                give(Call::Write { writer, position: *position, size: *size, frame });
             }
             smaller_tables(&writer.table, &mut |table| {
                 let mut writer = writer.clone();
                 writer.table = table;
-                give(Call::Write {
-                    writer,
-                    position: *position,
-                    size: *size,
-                    frame: frame.clone(),
-                });
+                give(Call::Write { writer, position: *position, size: *size, frame: frame.clone() });
             });
             for (current, counter) in [(SlotNumber(0), writer.counter), (writer.current, 0)] {
                 let mut writer = writer.clone();
                 writer.current = current;
                 writer.counter = counter;
-                give(Call::Write {
-                    writer,
-                    position: *position,
-                    size: *size,
-                    frame: frame.clone(),
-                });
+                give(Call::Write { writer, position: *position, size: *size, frame: frame.clone() });
             }
         }
     }
@@ -236,41 +172,22 @@ fn smaller_numbers(numbers: &[i32], plain: i32, give: &mut dyn FnMut(Vec<i32>)) 
 }
 
 fn smaller_readers(reader: &Reader, give: &mut dyn FnMut(Reader)) {
-    let with = |shown: Table, pending: Table| Reader {
-        shown,
-        pending,
-        ..reader.clone()
-    };
+    let with = |shown: Table, pending: Table| Reader { shown, pending, ..reader.clone() };
     // Both at once, since while lost they must stay equal.
     if reader.shown == reader.pending {
         smaller_tables(&reader.shown, &mut |table| give(with(table, table)));
     }
     if reader.mode == Mode::Following || reader.shown != reader.pending {
-        smaller_tables(&reader.shown, &mut |table| {
-            give(with(table, reader.pending))
-        });
-        smaller_tables(&reader.pending, &mut |table| {
-            give(with(reader.shown, table))
-        });
+        smaller_tables(&reader.shown, &mut |table| give(with(table, reader.pending)));
+        smaller_tables(&reader.pending, &mut |table| give(with(reader.shown, table)));
     }
-    give(Reader {
-        current: SlotNumber(0),
-        ..reader.clone()
-    });
+    give(Reader { current: SlotNumber(0), ..reader.clone() });
 }
 
 fn smaller_tables(table: &Table, give: &mut dyn FnMut(Table)) {
     for s in 0..table.len() {
         let slot = table[s];
-        for fewer in [
-            Slot::UNUSED,
-            Slot { x: 0, ..slot },
-            Slot { y: 0, ..slot },
-            Slot {
-                pressure: 0,
-                ..slot
-            },
-        ] {
+        for fewer in [Slot::UNUSED, Slot { x: 0, ..slot }, Slot { y: 0, ..slot }, Slot { pressure: 0, ..slot }] {
             let mut table = *table;
             table[s] = fewer;
             give(table);
@@ -333,11 +250,7 @@ mod tests {
                 let mut reader = reader.clone();
                 let before = reader.clone();
                 reader.run(bytes).is_ok()
-                    && reader
-                        .pending
-                        .iter()
-                        .zip(before.pending)
-                        .any(|(now, then)| now.id != then.id && then.x > 0)
+                    && reader.pending.iter().zip(before.pending).any(|(now, then)| now.id != then.id && then.x > 0)
             }
             _ => false,
         };
@@ -354,10 +267,7 @@ mod tests {
             call = next;
         }
         let short = shorten(&call);
-        assert!(
-            short.len() < 150 && short.matches('{').count() <= 3,
-            "{short}"
-        );
+        assert!(short.len() < 150 && short.matches('{').count() <= 3, "{short}");
     }
 
     #[test]

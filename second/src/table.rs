@@ -53,12 +53,7 @@ pub struct Slot {
 }
 
 impl Slot {
-    pub const UNUSED: Slot = Slot {
-        id: TrackingId::UNUSED,
-        x: 0,
-        y: 0,
-        pressure: 0,
-    };
+    pub const UNUSED: Slot = Slot { id: TrackingId::UNUSED, x: 0, y: 0, pressure: 0 };
 }
 
 pub type Table = [Slot; SLOTS];
@@ -109,12 +104,7 @@ pub fn id_in_range(value: i32) -> Option<TrackingId> {
 mod tests {
     use super::*;
 
-    const PANEL: Setup = Setup {
-        slots: 2,
-        largest_x: 4000,
-        largest_y: 4000,
-        largest_pressure: 255,
-    };
+    const PANEL: Setup = Setup { slots: 2, largest_x: 4000, largest_y: 4000, largest_pressure: 255 };
 
     #[test]
     fn setup_ranges() {
@@ -122,38 +112,13 @@ mod tests {
             assert_eq!(Setup { slots, ..PANEL }.is_good(), good, "n {slots}");
         }
         // 2^32 + 2 would pass where n is cut to 32 bits.
-        assert!(!Setup {
-            slots: (1 << 32) + 2,
-            ..PANEL
-        }
-        .is_good());
+        assert!(!Setup { slots: (1 << 32) + 2, ..PANEL }.is_good());
         for (largest, good) in [(0, false), (1, true), (32_767, true), (32_768, false)] {
-            assert_eq!(
-                Setup {
-                    largest_x: largest,
-                    ..PANEL
-                }
-                .is_good(),
-                good
-            );
-            assert_eq!(
-                Setup {
-                    largest_y: largest,
-                    ..PANEL
-                }
-                .is_good(),
-                good
-            );
+            assert_eq!(Setup { largest_x: largest, ..PANEL }.is_good(), good);
+            assert_eq!(Setup { largest_y: largest, ..PANEL }.is_good(), good);
         }
         for (largest, good) in [(0, false), (1, true), (255, true), (256, false)] {
-            assert_eq!(
-                Setup {
-                    largest_pressure: largest,
-                    ..PANEL
-                }
-                .is_good(),
-                good
-            );
+            assert_eq!(Setup { largest_pressure: largest, ..PANEL }.is_good(), good);
         }
     }
 

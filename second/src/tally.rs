@@ -98,9 +98,7 @@ impl Tally {
                 }
             }
             if !is_passed_over(line.as_bytes()) {
-                let answer = answers
-                    .next()
-                    .ok_or_else(|| format!("call {} has no answer", tally.calls + 1))?;
+                let answer = answers.next().ok_or_else(|| format!("call {} has no answer", tally.calls + 1))?;
                 tally.calls += 1;
                 tally.count(line, answer);
             }
@@ -182,14 +180,8 @@ impl Tally {
                     self.note("write: the counter wrapped".to_string());
                 }
             }
-            ("write", "5") if said.len() > 73 => self.note(
-                if said[73] == "0" {
-                    "write: no room, no need"
-                } else {
-                    "write: no room, a need"
-                }
-                .to_string(),
-            ),
+            ("write", "5") if said.len() > 73 => self
+                .note(if said[73] == "0" { "write: no room, no need" } else { "write: no room, a need" }.to_string()),
             _ => {}
         }
     }
@@ -197,11 +189,7 @@ impl Tally {
     /// What should have occurred and never did.
     pub fn missing(&self) -> Vec<&'static str> {
         let never = |counted: &BTreeMap<String, u64>, names: &[&'static str]| {
-            names
-                .iter()
-                .filter(|name| !counted.contains_key(**name))
-                .copied()
-                .collect::<Vec<_>>()
+            names.iter().filter(|name| !counted.contains_key(**name)).copied().collect::<Vec<_>>()
         };
         let mut missing = never(&self.seen, EXPECTED);
         missing.extend(never(&self.tried, TRIED));
@@ -210,11 +198,7 @@ impl Tally {
 
     /// The report: expected answers in their order, then any others, then what was tried.
     pub fn report(&self) -> String {
-        let others = self
-            .seen
-            .keys()
-            .map(String::as_str)
-            .filter(|name| !EXPECTED.contains(name));
+        let others = self.seen.keys().map(String::as_str).filter(|name| !EXPECTED.contains(name));
         let answers = rows(&self.seen, EXPECTED.iter().copied().chain(others));
         let mut report = format!("{} calls; answers:\n{answers}", self.calls);
         if !self.tried.is_empty() {
@@ -237,10 +221,8 @@ fn rows<'a>(counted: &BTreeMap<String, u64>, names: impl Iterator<Item = &'a str
             None => rows.push((group, vec![entry])),
         }
     }
-    let rows: Vec<String> = rows
-        .iter()
-        .map(|(group, entries)| format!("  {group:<8} {}", entries.join(" | ")))
-        .collect();
+    let rows: Vec<String> =
+        rows.iter().map(|(group, entries)| format!("  {group:<8} {}", entries.join(" | "))).collect();
     rows.join("\n")
 }
 

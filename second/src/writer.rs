@@ -32,12 +32,7 @@ impl Writer {
         if !setup.is_good() {
             return Err(Refusal::Setup);
         }
-        Ok(Writer {
-            setup,
-            current: SlotNumber(0),
-            counter: 0,
-            table: EMPTY,
-        })
+        Ok(Writer { setup, current: SlotNumber(0), counter: 0, table: EMPTY })
     }
 
     pub fn is_well_formed(&self) -> bool {
@@ -48,12 +43,7 @@ impl Writer {
             && live_ids_differ(&self.table)
     }
 
-    pub fn write(
-        &mut self,
-        frame: &[i32],
-        buffer: &mut [u8],
-        position: u64,
-    ) -> Result<Written, Refusal> {
+    pub fn write(&mut self, frame: &[i32], buffer: &mut [u8], position: u64) -> Result<Written, Refusal> {
         if !self.is_well_formed() {
             return Err(Refusal::State);
         }
@@ -82,10 +72,7 @@ impl Writer {
         for (s, wanted) in frame.chunks_exact(4).enumerate() {
             let old = self.table[s];
             let new = match wanted[0] {
-                0 => Slot {
-                    id: TrackingId::UNUSED,
-                    ..old
-                },
+                0 => Slot { id: TrackingId::UNUSED, ..old },
                 kind @ (1 | 2) => {
                     let x = in_range(wanted[1], self.setup.largest_x)?;
                     let y = in_range(wanted[2], self.setup.largest_y)?;
@@ -116,11 +103,7 @@ impl Writer {
             let without_slot = u32::from(changed >> self.current.0 & 1);
             numbers + changed.count_ones() - without_slot + 1
         };
-        Some(Plan {
-            table,
-            counter,
-            written: Written { events, changed },
-        })
+        Some(Plan { table, counter, written: Written { events, changed } })
     }
 
     /// `so_far` holds the new slots below the one that asks. Besides the ids given in this frame it holds kept ones, which are live in the old table anyway.

@@ -16,18 +16,15 @@ fn every_case_is_a_named_call() {
         } else if !is_passed_over(line.as_bytes()) {
             assert!(!name.is_empty());
             let answer = answer_line(line.as_bytes());
-            assert_eq!(
-                answer == BAD_LINE,
-                name == "# a line that is no call",
-                "{name}"
-            );
+            assert_eq!(answer == BAD_LINE, name == "# a line that is no call", "{name}");
             // A name that begins with a number is a refusal of that number.
-            if let Some(verdict) = name[2..].split([' ', ':']).next().filter(|word| {
-                word.len() == 1 && word.as_bytes()[0].is_ascii_digit() && !name.contains(" is not")
-            }) {
+            if let Some(verdict) = name[2..]
+                .split([' ', ':'])
+                .next()
+                .filter(|word| word.len() == 1 && word.as_bytes()[0].is_ascii_digit() && !name.contains(" is not"))
+            {
                 assert!(
-                    answer.starts_with(&format!("{verdict} "))
-                        || answer.ends_with(&format!("refused {verdict}")),
+                    answer.starts_with(&format!("{verdict} ")) || answer.ends_with(&format!("refused {verdict}")),
                     "{name}: {answer}"
                 );
             }
@@ -51,14 +48,7 @@ fn p2_to_p7_follow_the_row_before() {
         let Some(Call::Write { .. }) = Call::parse(row.as_bytes()) else {
             panic!("{row}");
         };
-        let state = |words: &str| {
-            words
-                .split(' ')
-                .skip(1)
-                .take(70)
-                .collect::<Vec<_>>()
-                .join(" ")
-        };
+        let state = |words: &str| words.split(' ').skip(1).take(70).collect::<Vec<_>>().join(" ");
         if let Some(before) = before {
             assert_eq!(state(row), before);
         }

@@ -12,24 +12,14 @@ use second::writer::Writer;
 
 fn calls(seed: u64, count: usize) -> Vec<Call> {
     let mut maker = Maker::new(seed);
-    (0..count)
-        .filter_map(|_| Call::parse(maker.lines().lines().nth(1).unwrap().as_bytes()))
-        .collect()
+    (0..count).filter_map(|_| Call::parse(maker.lines().lines().nth(1).unwrap().as_bytes())).collect()
 }
 
 /// The table that a frame asks for but for ids, said the slow way.
 fn asked(before: &Slot, wanted: &[i32]) -> Slot {
     match wanted[0] {
-        0 => Slot {
-            id: TrackingId::UNUSED,
-            ..*before
-        },
-        _ => Slot {
-            id: before.id,
-            x: wanted[1] as u32,
-            y: wanted[2] as u32,
-            pressure: wanted[3] as u32,
-        },
+        0 => Slot { id: TrackingId::UNUSED, ..*before },
+        _ => Slot { id: before.id, x: wanted[1] as u32, y: wanted[2] as u32, pressure: wanted[3] as u32 },
     }
 }
 
@@ -37,13 +27,7 @@ fn asked(before: &Slot, wanted: &[i32]) -> Slot {
 fn frames() {
     let mut accepted = 0;
     for call in calls(21, 20_000) {
-        let Call::Write {
-            writer,
-            position,
-            size,
-            frame,
-        } = call
-        else {
+        let Call::Write { writer, position, size, frame } = call else {
             continue;
         };
         let mut after = writer.clone();
@@ -57,10 +41,7 @@ fn frames() {
         assert!(after.is_well_formed());
 
         // Only the records' bytes changed.
-        let (start, end) = (
-            position as usize,
-            position as usize + written.events as usize * RECORD,
-        );
+        let (start, end) = (position as usize, position as usize + written.events as usize * RECORD);
         let marks = second::script::marks(size);
         assert_eq!(buffer[..start], marks[..start]);
         assert_eq!(buffer[end..], marks[end..]);
@@ -113,11 +94,7 @@ fn frames() {
             .sum();
         let current = writer.current.0 as usize;
         let free = usize::from(after.table[current] != writer.table[current]);
-        let fewest = if slots == 0 {
-            0
-        } else {
-            numbers + slots - free + 1
-        };
+        let fewest = if slots == 0 { 0 } else { numbers + slots - free + 1 };
         assert_eq!(written.events as usize, fewest);
         assert_eq!(written.changed.count_ones() as usize, slots);
     }
@@ -127,11 +104,7 @@ fn frames() {
 #[test]
 fn runs_are_their_records_one_after_the_other() {
     for call in calls(22, 6_000) {
-        let Call::Run {
-            reader,
-            bytes: records,
-        } = call
-        else {
+        let Call::Run { reader, bytes: records } = call else {
             continue;
         };
         let mut after = reader.clone();
@@ -144,18 +117,12 @@ fn runs_are_their_records_one_after_the_other() {
         let mut sums = [0; 4];
         for event in events(&records) {
             let one = slow.one(event).unwrap();
-            for (sum, count) in sums
-                .iter_mut()
-                .zip([one.shown, one.skipped, one.bad, one.ignored])
-            {
+            for (sum, count) in sums.iter_mut().zip([one.shown, one.skipped, one.bad, one.ignored]) {
                 *sum += count;
             }
         }
         assert_eq!(slow, after);
-        assert_eq!(
-            sums,
-            [counts.shown, counts.skipped, counts.bad, counts.ignored]
-        );
+        assert_eq!(sums, [counts.shown, counts.skipped, counts.bad, counts.ignored]);
     }
 }
 

@@ -15,10 +15,7 @@ fn any_writer() -> Writer {
 }
 
 fn any_reader(mode: Mode) -> Reader {
-    Reader {
-        mode,
-        ..following(0, &[slot(0, 100, 200, 30), slot(1, 300, 400, 30)])
-    }
+    Reader { mode, ..following(0, &[slot(0, 100, 200, 30), slot(1, 300, 400, 30)]) }
 }
 
 #[test]
@@ -46,11 +43,7 @@ fn a_writer_that_is_not_well_formed() {
         break_it(&mut writer);
         let before = writer.clone();
         // Judged before the frame (3), its values (4) and the room (5).
-        assert_eq!(
-            writer.write(&[9], &mut [], 7),
-            Err(Refusal::State),
-            "break {i}"
-        );
+        assert_eq!(writer.write(&[9], &mut [], 7), Err(Refusal::State), "break {i}");
         assert_eq!(writer, before);
     }
 }
@@ -94,11 +87,7 @@ fn a_reader_that_is_not_well_formed() {
     }
     let mut reader = any_reader(Mode::Following);
     reader.pending[0].id = TrackingId(1);
-    assert_eq!(
-        reader.run(&[]),
-        Ok(Default::default()),
-        "pending ids may repeat"
-    );
+    assert_eq!(reader.run(&[]), Ok(Default::default()), "pending ids may repeat");
 }
 
 #[test]
@@ -116,27 +105,14 @@ fn frames_and_room() {
         assert_eq!(writer.write(&frame, &mut [], 7), Err(Refusal::Value));
     }
     let mut buffer = [5; 16];
-    for (size, position) in [
-        (15, 0),
-        (16, 1),
-        (16, 16),
-        (16, 17),
-        (16, u64::MAX),
-        (16, u64::MAX - 15),
-    ] {
-        assert_eq!(
-            writer.write(&good, &mut buffer[..size], position),
-            Err(Refusal::NoRoom { need: 16 })
-        );
+    for (size, position) in [(15, 0), (16, 1), (16, 16), (16, 17), (16, u64::MAX), (16, u64::MAX - 15)] {
+        assert_eq!(writer.write(&good, &mut buffer[..size], position), Err(Refusal::NoRoom { need: 16 }));
     }
     assert_eq!((writer.clone(), buffer), (any_writer(), [5; 16]));
     // Nothing to write fits at the end, but not past it.
     let equal = [1, 100, 200, 30, 1, 300, 400, 30];
     assert!(writer.write(&equal, &mut buffer, 16).is_ok());
-    assert_eq!(
-        writer.write(&equal, &mut buffer, 17),
-        Err(Refusal::NoRoom { need: 0 })
-    );
+    assert_eq!(writer.write(&equal, &mut buffer, 17), Err(Refusal::NoRoom { need: 0 }));
 }
 
 #[test]
@@ -170,24 +146,14 @@ fn loads() {
     no(&[0; 12], 0);
     no(&good, 2);
     no(&good, u64::MAX);
-    for (place, value) in [
-        (0, -2),
-        (4, 65_536),
-        (1, 4001),
-        (2, -1),
-        (3, 256),
-        (7, i32::MIN),
-    ] {
+    for (place, value) in [(0, -2), (4, 65_536), (1, 4001), (2, -1), (3, 256), (7, i32::MIN)] {
         let mut image = good;
         image[place] = value;
         no(&image, 0);
     }
     no(&[5, 0, 0, 0, 5, 0, 0, 0], 0);
     reader.load(&good, SlotNumber(1)).unwrap();
-    assert_eq!(
-        reader,
-        following(1, &[slot(-1, 4000, 0, 255), slot(5, 0, 4000, 0)])
-    );
+    assert_eq!(reader, following(1, &[slot(-1, 4000, 0, 255), slot(5, 0, 4000, 0)]));
 }
 
 #[test]
@@ -246,23 +212,8 @@ fn all_first_bytes() {
         let expected = match first {
             0x01..=0x75 => (Report::Down(first), 1),
             0x81..=0xF5 => (Report::Up(first - 0x80), 1),
-            0xF7 => (
-                Report::Absolute {
-                    flags: 0,
-                    x: 0,
-                    y: 0,
-                },
-                6,
-            ),
-            0xF8..=0xFB => (
-                Report::Relative {
-                    left: first >= 0xFA,
-                    right: first % 2 == 1,
-                    dx: 0,
-                    dy: 0,
-                },
-                3,
-            ),
+            0xF7 => (Report::Absolute { flags: 0, x: 0, y: 0 }, 6),
+            0xF8..=0xFB => (Report::Relative { left: first >= 0xFA, right: first % 2 == 1, dx: 0, dy: 0 }, 3),
             0xFD..=0xFF => (report, if first == 0xFD { 3 } else { 2 }),
             _ => (Report::BadByte, 1),
         };
@@ -272,10 +223,7 @@ fn all_first_bytes() {
 
 #[test]
 fn the_zeros_of_refusal_1() {
-    let bad = Setup {
-        slots: 0,
-        ..panel(1)
-    };
+    let bad = Setup { slots: 0, ..panel(1) };
     assert_eq!(Reader::fresh(bad), Err(Refusal::Setup));
     assert_eq!(Reader::default().mode, Mode::Following);
     assert_eq!(Reader::default().shown[3], slot(0, 0, 0, 0));

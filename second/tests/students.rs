@@ -81,10 +81,7 @@ fn both_sticks_are_one_report() {
     pod.take(0xFD).unwrap();
     pod.take(0x00).unwrap();
     let stick = |trigger, position| Stick { trigger, position };
-    assert_eq!(
-        pod.take(0x81),
-        Ok(Report::Sticks(stick(false, 0), stick(true, 1)))
-    );
+    assert_eq!(pod.take(0x81), Ok(Report::Sticks(stick(false, 0), stick(true, 1))));
 }
 
 #[test]
@@ -127,19 +124,9 @@ fn bad_values_are_a_loss() {
     ] {
         let mut reader = following(1, &fingers);
         let counts = reader.run(&bytes(&[event, abs(ABS_MT_POSITION_X, 5), Event::REPORT]));
-        let expected = Counts {
-            bad: 1,
-            ignored: 2,
-            ..Counts::default()
-        };
+        let expected = Counts { bad: 1, ignored: 2, ..Counts::default() };
         assert_eq!(counts, Ok(expected));
-        assert_eq!(
-            reader,
-            Reader {
-                mode: Mode::Stale,
-                ..following(1, &fingers)
-            }
-        );
+        assert_eq!(reader, Reader { mode: Mode::Stale, ..following(1, &fingers) });
     }
 }
 
@@ -171,11 +158,7 @@ fn five_hundred_events_and_a_report_show_a_table() {
 #[test]
 fn counts_and_modes() {
     let mut reader = following(0, &[slot(-1, 0, 0, 0)]);
-    let unknown = Event {
-        kind: 3,
-        code: 0x3ff,
-        value: 1,
-    };
+    let unknown = Event { kind: 3, code: 0x3ff, value: 1 };
     let counts = reader
         .run(&bytes(&[
             Event::REPORT,
@@ -190,14 +173,6 @@ fn counts_and_modes() {
             Event::DROPPED,
         ]))
         .unwrap();
-    assert_eq!(
-        counts,
-        Counts {
-            shown: 2,
-            skipped: 1,
-            bad: 0,
-            ignored: 6
-        }
-    );
+    assert_eq!(counts, Counts { shown: 2, skipped: 1, bad: 0, ignored: 6 });
     assert_eq!(reader.mode, Mode::Dropped);
 }

@@ -9,21 +9,11 @@ use second::table::{Setup, Slot, SlotNumber, Table, TrackingId, EMPTY};
 use second::writer::{Writer, Written};
 
 pub fn panel(slots: u64) -> Setup {
-    Setup {
-        slots,
-        largest_x: 4000,
-        largest_y: 4000,
-        largest_pressure: 255,
-    }
+    Setup { slots, largest_x: 4000, largest_y: 4000, largest_pressure: 255 }
 }
 
 pub fn slot(id: i32, x: u32, y: u32, pressure: u32) -> Slot {
-    Slot {
-        id: TrackingId(id),
-        x,
-        y,
-        pressure,
-    }
+    Slot { id: TrackingId(id), x, y, pressure }
 }
 
 pub fn table(slots: &[Slot]) -> Table {
@@ -33,12 +23,7 @@ pub fn table(slots: &[Slot]) -> Table {
 }
 
 pub fn writer(current: u64, counter: u32, slots: &[Slot]) -> Writer {
-    Writer {
-        setup: panel(slots.len() as u64),
-        current: SlotNumber(current),
-        counter,
-        table: table(slots),
-    }
+    Writer { setup: panel(slots.len() as u64), current: SlotNumber(current), counter, table: table(slots) }
 }
 
 pub fn following(current: u64, slots: &[Slot]) -> Reader {
