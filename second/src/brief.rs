@@ -1,0 +1,150 @@
+//! A shorter way to write a script's lines, for people: `[..]` is a table and `{..}` a record.
+//!
+//! `[0 100 200 30]` is a table whose first slots are given and whose others are unused; `{X 300}` is the eight bytes of that event, `{X 300}*9` nine times them.
+
+use crate::events::{events, RECORD};
+use crate::reader::Reader;
+use crate::records;
+use crate::script::Call;
+use crate::table::{Slot, Table, SLOTS};
+
+/// A whole brief script as a script for `drive`; an error names its line.
+pub fn expand(text: &str) -> Result<String, String> {
+    let mut script = String::new();
+    for (number, line) in text.lines().enumerate() {
+        if line.is_empty() || line.starts_with('#') {
+            script.push_str(line);
+        } else {
+            let long = expand_line(line).map_err(|what| format!("line {}: {what}", number + 1))?;
+            script.push_str(&long);
+        }
+        script.push('\n');
+    }
+    Ok(script)
+}
+
+fn expand_line(line: &str) -> Result<String, String> {
+    let mut out: Vec<String> = Vec::new();
+    let mut rest = line.trim();
+    while !rest.is_empty() {
+        if let Some(inside) = rest.strip_prefix('[') {
+            let (table, after) = inside.split_once(']').ok_or("a [ without its ]")?;
+            expand_table(table, &mut out)?;
+            rest = after;
+        } else if let Some(inside) = rest.strip_prefix('{') {
+            let (event, after) = inside.split_once('}').ok_or("a { without its }")?;
+            let words: Vec<&str> = event.split_whitespace().collect();
+            let bytes = records::event(&words)?.to_bytes();
+            let (times, after) = match after.strip_prefix('*') {
+                Some(counted) => {
+                    let (count, after) = counted.split_once(' ').unwrap_or((counted, ""));
+                    let times: usize = count.parse().map_err(|_| format!("'{count}' is no count"))?;
+                    (times, after)
+                }
+                None => (1, after),
+            };
+            for _ in 0..times {
+                out.extend(bytes.iter().map(u8::to_string));
+            }
+            rest = after;
+        } else {
+            let (word, after) = rest.split_once(' ').unwrap_or((rest, ""));
+            out.push(word.to_string());
+            rest = after;
+        }
+        rest = rest.trim_start();
+    }
+    Ok(out.join(" "))
+}
+
+fn expand_table(inside: &str, out: &mut Vec<String>) -> Result<(), String> {
+    let numbers: Vec<&str> = inside.split_whitespace().collect();
+    if numbers.len() % 4 != 0 || numbers.len() > 4 * SLOTS {
+        return Err(format!("a table of {} numbers: four a slot, at most 64", numbers.len()));
+    }
+    out.extend(numbers.iter().map(|number| number.to_string()));
+    for _ in numbers.len() / 4..SLOTS {
+        out.extend(["-1", "0", "0", "0"].map(str::to_string));
+    }
+    Ok(())
+}
+
+/// A call as a brief line; [`expand`] gives its line back.
+pub fn shorten(call: &Call) -> String {
+    let long = call.line();
+    let words: Vec<&str> = long.split(' ').collect();
+    match call {
+        Call::Run { reader, bytes } => {
+            let mut line = short_reader(&words, reader);
+            for event in events(bytes) {
+                line.push_str(&format!(" {{{}}}", records::event_text(event)));
+            }
+            for byte in bytes.chunks_exact(RECORD).remainder() {
+                line.push_str(&format!(" {byte}"));
+            }
+            line
+        }
+        Call::One { reader, .. } | Call::Load { reader, .. } | Call::Ask { reader, .. } => {
+            join(short_reader(&words, reader), &words[135..])
+        }
+        Call::Write { writer, .. } => {
+            join(format!("{} {}", words[..7].join(" "), short_table(&writer.table)), &words[71..])
+        }
+        Call::Fresh(_) | Call::New(_) | Call::Pod { .. } => long,
+    }
+}
+
+fn short_reader(words: &[&str], reader: &Reader) -> String {
+    format!("{} {} {}", words[..7].join(" "), short_table(&reader.shown), short_table(&reader.pending))
+}
+
+fn short_table(table: &Table) -> String {
+    let used = table.iter().rposition(|slot| *slot != Slot::UNUSED).map_or(0, |last| last + 1);
+    let slots: Vec<String> =
+        table[..used].iter().map(|slot| format!("{} {} {} {}", slot.id.0, slot.x, slot.y, slot.pressure)).collect();
+    format!("[{}]", slots.join("  "))
+}
+
+fn join(mut line: String, words: &[&str]) -> String {
+    for word in words {
+        line.push(' ');
+        line.push_str(word);
+    }
+    line
+}
+
+#[cfg(test)]
+mod tests {
+    use super::*;
+    use crate::maker::Maker;
+
+    #[test]
+    fn short_lines_come_back() {
+        let mut maker = Maker::new(4);
+        for _ in 0..1000 {
+            let lines = maker.lines();
+            let line = lines.lines().nth(1).unwrap();
+            if let Some(call) = Call::parse(line.as_bytes()) {
+                assert_eq!(expand_line(&shorten(&call)).as_deref(), Ok(line));
+            }
+        }
+    }
+
+    #[test]
+    fn tables_records_and_counts() {
+        let rest = " -1 0 0 0".repeat(15);
+        assert_eq!(
+            expand("# a name\nrun 1 2 3 4 0 0 [5 1 1 1] [] {X 1}*2 {REPORT} 9\n").unwrap(),
+            format!("# a name\nrun 1 2 3 4 0 0 5 1 1 1{rest} -1 0 0 0{rest} 3 0 53 0 1 0 0 0 3 0 53 0 1 0 0 0 0 0 0 0 0 0 0 0 9\n")
+        );
+        for (text, error) in [
+            ("\nrun [1 2 3]", "line 2: a table of 3"),
+            ("run [1", "line 1: a [ "),
+            ("run {X", "line 1: a { "),
+            ("run {Z 1}", "line 1: 'Z'"),
+            ("run {X 1}*q", "line 1: 'q'"),
+        ] {
+            assert!(expand(text).unwrap_err().starts_with(error), "{text}");
+        }
+    }
+}

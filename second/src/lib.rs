@@ -1,0 +1,21 @@
+//! Panel and pod events, written from document 01 alone: what the proved library is compared with.
+//!
+//! The rules: [`refusal`], [`table`], [`events`], [`reader`], [`writer`], [`pod`].
+//! The programs: [`programs`]. The comparison: [`script`], [`maker`], [`random`], [`noise`], [`smaller`], [`tally`].
+//! Texts for people: [`records`], [`brief`].
+
+pub mod brief;
+pub mod events;
+pub mod maker;
+pub mod noise;
+pub mod pod;
+pub mod programs;
+pub mod random;
+pub mod reader;
+pub mod records;
+pub mod refusal;
+pub mod script;
+pub mod smaller;
+pub mod table;
+pub mod tally;
+pub mod writer;

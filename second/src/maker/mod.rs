@@ -1,0 +1,208 @@
+//! Seeded random scripts: calls of every kind, good, at the edges of every range, and broken in each way.
+
+mod broken;
+mod lines;
+mod numbers;
+mod pods;
+mod reading;
+mod states;
+mod writing;
+
+use crate::events::RECORD;
+use crate::pod::Pod;
+use crate::random::Random;
+use crate::reader::Reader;
+use crate::script::{Call, MOST_NUMBERS};
+use crate::writer::Writer;
+
+/// What a script tries, by the names in its comment lines. A tally that misses one of them is a script that was too short, or a hole in this maker.
+pub const TRIED: &[&str] = &[
+    "setup: good",
+    "setup: n",
+    "setup: largest x",
+    "setup: largest y",
+    "setup: largest pressure",
+    "state: reached by calls",
+    "state: any well-formed one",
+    "broken: n",
+    "broken: n cuts off a record in use",
+    "broken: largest x",
+    "broken: largest y",
+    "broken: largest pressure",
+    "broken: largest below a number in use",
+    "broken: current slot",
+    "broken: counter",
+    "broken: id in the writer's table",
+    "broken: id in the shown table",
+    "broken: id in the pending table",
+    "broken: number in the writer's table",
+    "broken: number in the shown table",
+    "broken: number in the pending table",
+    "broken: id repeated in the writer's table",
+    "broken: id repeated in the shown table",
+    "broken: record past n in the writer's table",
+    "broken: record past n in the shown table",
+    "broken: record past n in the pending table",
+    "broken: pending differs while lost",
+    "allowed: id repeated in the pending table",
+    "frame: equal",
+    "frame: one number changed",
+    "frame: one slot's kind changed",
+    "frame: several slots changed",
+    "frame: every number changed",
+    "frame: all begin",
+    "frame: all lift",
+    "frame: any good one",
+    "frame: junk in slots of kind 0",
+    "frame: wrong length",
+    "frame: bad kind",
+    "frame: bad number",
+    "ids: near the wrap",
+    "room: exact",
+    "room: to spare",
+    "room: one byte less",
+    "room: less",
+    "room: at the end",
+    "room: past the end",
+    "room: position near 2^64",
+    "run: no records",
+    "run: calm",
+    "run: rough",
+    "run: long",
+    "run: what a writer sends",
+    "run: ragged",
+    "one: calm",
+    "one: rough",
+    "load: while not stale",
+    "load: good image",
+    "load: length",
+    "load: id",
+    "load: number",
+    "load: number of an unused slot",
+    "load: repeated id",
+    "load: current slot",
+    "ask: below n",
+    "ask: n or more",
+    "pod: first byte",
+    "pod: byte inside a report",
+    "pod: held too many",
+    "pod: held as many as the report is long",
+    "pod: first byte opens nothing",
+    "pod: unused place not 0",
+    "line: no such word",
+    "line: too few numbers",
+    "line: too many numbers",
+    "line: a number that its type cannot hold",
+    "line: not a number",
+    "line: too long",
+];
+
+const KEPT_STATES: usize = 6;
+/// Room in a line for a run: the reader takes 134 numbers.
+const LONGEST_RUN: usize = (MOST_NUMBERS - 134) / RECORD;
+
+pub struct Maker {
+    pub(crate) random: Random,
+    writers: Vec<Writer>,
+    readers: Vec<Reader>,
+    pod: Pod,
+    next_first_byte: u8,
+    tags: Vec<&'static str>,
+}
+
+impl Maker {
+    pub fn new(seed: u64) -> Maker {
+        let mut maker = Maker {
+            random: Random::new(seed),
+            writers: Vec::new(),
+            readers: Vec::new(),
+            pod: Pod::FRESH,
+            next_first_byte: 0,
+            tags: Vec::new(),
+        };
+        for _ in 0..KEPT_STATES {
+            let setup = maker.setup();
+            maker.writers.push(Writer::fresh(setup).expect("a good setup"));
+            maker.readers.push(Reader::fresh(setup).expect("a good setup"));
+        }
+        maker
+    }
+
+    /// One call's line, with a comment line before it that says what it tries.
+    pub fn lines(&mut self) -> String {
+        self.tags.clear();
+        let line = self.line();
+        format!("# {}\n{line}\n", self.tags.join("; "))
+    }
+
+    fn line(&mut self) -> String {
+        if self.random.once_in(40) {
+            return self.bad_line();
+        }
+        let call = self.call();
+        let line = call.line();
+        debug_assert_eq!(Call::parse(line.as_bytes()), Some(call));
+        line
+    }
+
+    fn call(&mut self) -> Call {
+        match self.random.below(100) {
+            0..=2 => Call::Fresh(self.any_setup()),
+            3..=5 => Call::New(self.any_setup()),
+            6..=35 => self.write(),
+            36..=52 => self.run(),
+            53..=63 => self.one(),
+            64..=74 => self.load(),
+            75..=80 => self.ask(),
+            _ => self.pod(),
+        }
+    }
+
+    fn tag(&mut self, tag: &'static str) {
+        debug_assert!(TRIED.contains(&tag), "{tag}");
+        if !self.tags.contains(&tag) {
+            self.tags.push(tag);
+        }
+    }
+}
+
+#[cfg(test)]
+mod tests {
+    use super::*;
+    use crate::script::{answer_line, BAD_LINE};
+
+    #[test]
+    fn the_same_seed_makes_the_same_script() {
+        let script = |seed| {
+            let mut maker = Maker::new(seed);
+            (0..200).map(|_| maker.lines()).collect::<String>()
+        };
+        assert_eq!(script(1), script(1));
+        assert_ne!(script(1), script(2));
+    }
+
+    #[test]
+    fn comments_say_what_is_true_of_their_line() {
+        let mut maker = Maker::new(3);
+        for _ in 0..4000 {
+            let lines = maker.lines();
+            let (comment, line) = lines.trim_end().split_once('\n').unwrap();
+            let answer = answer_line(line.as_bytes());
+            assert_eq!(comment.starts_with("# line: "), answer == BAD_LINE, "{comment}\n{line}");
+            if comment.contains("broken: ") {
+                let call = Call::parse(line.as_bytes()).unwrap();
+                let good = match call {
+                    Call::Write { writer, .. } => writer.is_well_formed(),
+                    Call::Run { reader, .. }
+                    | Call::One { reader, .. }
+                    | Call::Load { reader, .. }
+                    | Call::Ask { reader, .. } => reader.is_well_formed(),
+                    _ => panic!("{comment}"),
+                };
+                assert!(!good, "{comment}\n{line}");
+            } else if comment.contains("state: ") {
+                assert!(!answer.starts_with("2 ") && answer != "refused 2", "{comment}");
+            }
+        }
+    }
+}

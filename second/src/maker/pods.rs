@@ -1,0 +1,82 @@
+//! Calls of the pod: bytes in every place of a report, and pod states that are not well formed.
+
+use super::Maker;
+use crate::pod::{length, Pod};
+use crate::script::Call;
+
+impl Maker {
+    pub(super) fn pod(&mut self) -> Call {
+        if self.random.once_in(6) {
+            return self.broken_pod();
+        }
+        let pod = self.pod;
+        let byte = self.pod_byte(pod);
+        self.pod.take(byte).expect("a kept pod is well formed");
+        Call::Pod { pod, byte }
+    }
+
+    /// First bytes in turn, or one that opens a longer report; inside a report what fits its place, so that not every one is bad.
+    pub(crate) fn pod_byte(&mut self, pod: Pod) -> u8 {
+        if pod.held > 0 {
+            self.tag("pod: byte inside a report");
+            let any = self.random.word() as u8;
+            let small = any & 0x0F;
+            // One bit above the low four, which alone may make a report bad.
+            let one_bit = 0x10 << self.random.below(4) | small;
+            return match (pod.bytes[0], pod.held) {
+                (0xF7, 1) => self.random.pick(&[small, small, one_bit]),
+                (0xF7, _) => any,
+                (0xF8..=0xFB, _) => self.random.pick(&[0x80, 0x7F, 0xFF, any]),
+                _ => self.random.pick(&[small, small, small | 0x80, one_bit, any]),
+            };
+        }
+        self.tag("pod: first byte");
+        if self.random.once_in(3) {
+            // An odd step reaches all 256, and each range of them soon.
+            self.next_first_byte = self.next_first_byte.wrapping_add(37);
+            return self.next_first_byte;
+        }
+        self.random.pick(&[
+            0xF7, 0xF7, 0xF7, 0xF8, 0xF9, 0xFA, 0xFB, 0xFD, 0xFD, 0xFD, 0xFE, 0xFE, 0xFF, 0xFF, 0x00, 0x76, 0x80, 0xF6,
+            0xFC,
+        ])
+    }
+
+    pub(super) fn broken_pod(&mut self) -> Call {
+        let first = self.random.pick(&[0xF7, 0xF8, 0xF9, 0xFA, 0xFB, 0xFD, 0xFE, 0xFF]);
+        let mut pod = Pod { held: self.random.below(length(first)), bytes: [0; 5] };
+        if pod.held > 0 {
+            pod.bytes[0] = first;
+            for place in 1..pod.held as usize {
+                pod.bytes[place] = self.random.word() as u8;
+            }
+        }
+        match self.random.below(4) {
+            0 => {
+                self.tag("pod: held too many");
+                pod.held = self.random.pick(&[6, 7, 255, (1 << 8) + pod.held, (1 << 32) + pod.held, u64::MAX]);
+            }
+            1 => {
+                self.tag("pod: held as many as the report is long");
+                let short = self.random.pick(&[0xF8, 0xFB, 0xFD, 0xFE, 0xFF]);
+                pod.held = self.random.from_to(length(short), 5);
+                pod.bytes = [short, 1, 0, 0, 0];
+            }
+            2 => {
+                self.tag("pod: first byte opens nothing");
+                pod.held = pod.held.max(1);
+                pod.bytes[0] = self.random.pick(&[0, 1, 0x75, 0x80, 0x81, 0xF5, 0xF6, 0xFC]);
+            }
+            _ => {
+                self.tag("pod: unused place not 0");
+                let place = self.random.from_to(pod.held, 5) as usize;
+                if place < 5 {
+                    pod.bytes[place] = self.random.from_to(1, 255) as u8;
+                } else {
+                    pod = Pod { held: 0, bytes: [0xF8, 0, 0, 0, 0] };
+                }
+            }
+        }
+        Call::Pod { pod, byte: self.random.word() as u8 }
+    }
+}

@@ -1,0 +1,120 @@
+//! States: those that the calls before reached, and any well-formed ones.
+
+use super::{Maker, KEPT_STATES};
+use crate::reader::{Mode, Reader};
+use crate::table::{Setup, SlotNumber, Table, TrackingId, EMPTY};
+use crate::writer::Writer;
+
+impl Maker {
+    /// Live ids from a window of neighbours, so that the choice of a new one meets them.
+    pub(super) fn any_table(&mut self, setup: &Setup, window: u32) -> Table {
+        let mut offsets: Vec<u32> = (0..24).collect();
+        for i in (1..offsets.len()).rev() {
+            offsets.swap(i, self.random.below(i as u64 + 1) as usize);
+        }
+        let all = self.random.once_in(4);
+        let mut table = EMPTY;
+        for (slot, offset) in table.iter_mut().zip(offsets).take(setup.slots as usize) {
+            if all || self.random.once_in(2) {
+                slot.id = TrackingId(((window + offset) & 0xffff) as i32);
+            }
+            // An unused slot keeps numbers too, but many are as they were at the start.
+            if slot.id.is_live() || self.random.once_in(2) {
+                slot.x = self.number(setup.largest_x);
+                slot.y = self.number(setup.largest_y);
+                slot.pressure = self.number(setup.largest_pressure);
+            }
+        }
+        table
+    }
+
+    pub(super) fn window(&mut self) -> u32 {
+        match self.random.below(4) {
+            0 => 0,
+            1 => {
+                self.tag("ids: near the wrap");
+                self.random.from_to(65_510, 65_535) as u32
+            }
+            _ => self.random.below(65_536) as u32,
+        }
+    }
+
+    pub(super) fn any_writer(&mut self) -> Writer {
+        let setup = self.setup();
+        let window = self.window();
+        Writer {
+            setup,
+            current: SlotNumber(self.random.below(setup.slots)),
+            counter: (window + self.random.below(30) as u32 + 65_533) & 0xffff,
+            table: self.any_table(&setup, window),
+        }
+    }
+
+    pub(super) fn any_reader(&mut self) -> Reader {
+        let setup = self.setup();
+        let window = self.window();
+        let shown = self.any_table(&setup, window);
+        let mut reader = Reader {
+            setup,
+            current: SlotNumber(self.random.below(setup.slots)),
+            mode: self.random.pick(&[Mode::Following, Mode::Following, Mode::Dropped, Mode::Stale]),
+            shown,
+            pending: shown,
+        };
+        if reader.mode == Mode::Following && self.random.once_in(2) {
+            for _ in 0..self.random.from_to(1, 4) {
+                let s = self.random.below(setup.slots) as usize;
+                match self.random.below(5) {
+                    0 => reader.pending[s].x = self.number(setup.largest_x),
+                    1 => reader.pending[s].y = self.number(setup.largest_y),
+                    2 => reader.pending[s].pressure = self.number(setup.largest_pressure),
+                    3 => reader.pending[s].id = TrackingId(self.random.below(65_536) as i32),
+                    _ => reader.pending[s].id = TrackingId::UNUSED,
+                }
+            }
+            if setup.slots > 1 && self.random.once_in(2) {
+                self.tag("allowed: id repeated in the pending table");
+                self.repeat_id(&mut reader.pending, setup.slots);
+            }
+        }
+        reader
+    }
+
+    /// Which of the kept states a call goes on from, and the state: kept ones move on as their calls do.
+    pub(super) fn writer(&mut self) -> (usize, Writer) {
+        let which = self.random.below(KEPT_STATES as u64) as usize;
+        if self.random.once_in(25) {
+            let setup = self.setup();
+            self.writers[which] = Writer::fresh(setup).expect("a good setup");
+        }
+        if self.random.once_in(3) {
+            self.tag("state: any well-formed one");
+            let writer = self.any_writer();
+            if self.random.once_in(3) {
+                self.writers[which] = writer.clone();
+            }
+            return (which, writer);
+        }
+        self.tag("state: reached by calls");
+        (which, self.writers[which].clone())
+    }
+
+    pub(super) fn reader(&mut self) -> (usize, Reader) {
+        let which = self.random.below(KEPT_STATES as u64) as usize;
+        let lost = self.readers[which].mode != Mode::Following;
+        if self.random.once_in(if lost { 3 } else { 25 }) {
+            let setup = self.setup();
+            self.readers[which] = Reader::fresh(setup).expect("a good setup");
+        }
+        if self.random.once_in(3) {
+            self.tag("state: any well-formed one");
+            let reader = self.any_reader();
+            if self.random.once_in(3) {
+                self.readers[which] = reader.clone();
+            }
+            return (which, reader);
+        }
+        self.tag("state: reached by calls");
+        (which, self.readers[which].clone())
+    }
+}

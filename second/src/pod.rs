@@ -1,0 +1,83 @@
+//! The reader of pod (ikbd) reports, one byte at a time.
+
+use crate::refusal::Refusal;
+
+#[derive(Clone, Copy, PartialEq, Eq, Debug, Default)]
+pub struct Pod {
+    pub held: u64,
+    pub bytes: [u8; 5],
+}
+
+#[derive(Clone, Copy, PartialEq, Eq, Debug)]
+pub struct Stick {
+    pub trigger: bool,
+    pub position: u8,
+}
+
+#[derive(Clone, Copy, PartialEq, Eq, Debug)]
+pub enum Report {
+    More,
+    Down(u8),
+    Up(u8),
+    Absolute { flags: u8, x: u16, y: u16 },
+    Relative { left: bool, right: bool, dx: i8, dy: i8 },
+    Sticks(Stick, Stick),
+    Stick { which: u8, stick: Stick },
+    BadByte,
+    BadReport,
+}
+
+/// How many bytes the report has that this first byte opens.
+pub fn length(first: u8) -> u64 {
+    match first {
+        0xF7 => 6,
+        0xF8..=0xFB | 0xFD => 3,
+        0xFE | 0xFF => 2,
+        _ => 1,
+    }
+}
+
+impl Pod {
+    pub const FRESH: Pod = Pod { held: 0, bytes: [0; 5] };
+
+    pub fn is_well_formed(&self) -> bool {
+        if self.held == 0 {
+            return *self == Pod::FRESH;
+        }
+        // No report is longer than six bytes, so this keeps `held` to the five places too.
+        self.held < length(self.bytes[0]) && self.bytes[self.held as usize..].iter().all(|b| *b == 0)
+    }
+
+    pub fn take(&mut self, byte: u8) -> Result<Report, Refusal> {
+        if !self.is_well_formed() {
+            return Err(Refusal::State);
+        }
+        let first = if self.held == 0 { byte } else { self.bytes[0] };
+        if self.held + 1 < length(first) {
+            self.bytes[self.held as usize] = byte;
+            self.held += 1;
+            return Ok(Report::More);
+        }
+        let [_, b1, b2, b3, b4] = self.bytes;
+        *self = Pod::FRESH;
+        Ok(match first {
+            0x01..=0x75 => Report::Down(first),
+            0x81..=0xF5 => Report::Up(first - 0x80),
+            0xF7 if b1 & 0xF0 != 0 => Report::BadReport,
+            0xF7 => Report::Absolute { flags: b1, x: u16::from_be_bytes([b2, b3]), y: u16::from_be_bytes([b4, byte]) },
+            0xF8..=0xFB => {
+                Report::Relative { left: first & 2 != 0, right: first & 1 != 0, dx: b1 as i8, dy: byte as i8 }
+            }
+            0xFD => match (stick(b1), stick(byte)) {
+                (Some(zero), Some(one)) => Report::Sticks(zero, one),
+                _ => Report::BadReport,
+            },
+            0xFE | 0xFF => stick(byte).map_or(Report::BadReport, |stick| Report::Stick { which: first & 1, stick }),
+            _ => Report::BadByte,
+        })
+    }
+}
+
+fn stick(byte: u8) -> Option<Stick> {
+    (byte & 0x70 == 0).then_some(Stick { trigger: byte & 0x80 != 0, position: byte & 0x0F })
+}

@@ -1,0 +1,190 @@
+//! The type B reader: a run over records, one record, a load, and what a slot is answered.
+
+use crate::events::*;
+use crate::refusal::Refusal;
+use crate::table::*;
+
+#[derive(Clone, Copy, PartialEq, Eq, Debug, Default)]
+pub enum Mode {
+    #[default]
+    Following,
+    Dropped,
+    Stale,
+}
+
+#[derive(Clone, Copy, PartialEq, Eq, Debug, Default)]
+pub struct Counts {
+    pub shown: u64,
+    pub skipped: u64,
+    pub bad: u64,
+    pub ignored: u64,
+}
+
+#[derive(Clone, Copy, PartialEq, Eq, Debug)]
+pub enum Asked {
+    Contact(Slot),
+    Empty,
+    Unknown,
+    NoSuchSlot,
+}
+
+/// The default is not a fresh state but the zeros that stand in an answer with refusal 1.
+#[derive(Clone, PartialEq, Eq, Debug, Default)]
+pub struct Reader {
+    pub setup: Setup,
+    pub current: SlotNumber,
+    pub mode: Mode,
+    pub shown: Table,
+    pub pending: Table,
+}
+
+impl Reader {
+    pub fn fresh(setup: Setup) -> Result<Reader, Refusal> {
+        if !setup.is_good() {
+            return Err(Refusal::Setup);
+        }
+        Ok(Reader { setup, current: SlotNumber(0), mode: Mode::Following, shown: EMPTY, pending: EMPTY })
+    }
+
+    pub fn is_well_formed(&self) -> bool {
+        self.setup.is_good()
+            && self.current.0 < self.setup.slots
+            && is_good_table(&self.setup, &self.shown)
+            && live_ids_differ(&self.shown)
+            && match self.mode {
+                Mode::Following => is_good_table(&self.setup, &self.pending),
+                Mode::Dropped | Mode::Stale => self.pending == self.shown,
+            }
+    }
+
+    pub fn run(&mut self, records: &[u8]) -> Result<Counts, Refusal> {
+        if !self.is_well_formed() {
+            return Err(Refusal::State);
+        }
+        if records.len() % RECORD != 0 {
+            return Err(Refusal::Ragged);
+        }
+        let mut counts = Counts::default();
+        for event in events(records) {
+            self.step(event, &mut counts);
+        }
+        Ok(counts)
+    }
+
+    pub fn one(&mut self, event: Event) -> Result<Counts, Refusal> {
+        if !self.is_well_formed() {
+            return Err(Refusal::State);
+        }
+        let mut counts = Counts::default();
+        self.step(event, &mut counts);
+        Ok(counts)
+    }
+
+    pub fn load(&mut self, image: &[i32], current: SlotNumber) -> Result<(), Refusal> {
+        if !self.is_well_formed() {
+            return Err(Refusal::State);
+        }
+        if self.mode != Mode::Stale {
+            return Err(Refusal::NotStale);
+        }
+        let table = self.image_table(image).ok_or(Refusal::Image)?;
+        if current.0 >= self.setup.slots {
+            return Err(Refusal::Image);
+        }
+        self.shown = table;
+        self.pending = table;
+        self.current = current;
+        self.mode = Mode::Following;
+        Ok(())
+    }
+
+    pub fn ask(&self, slot: SlotNumber) -> Result<Asked, Refusal> {
+        if !self.is_well_formed() {
+            return Err(Refusal::State);
+        }
+        if slot.0 >= self.setup.slots {
+            return Ok(Asked::NoSuchSlot);
+        }
+        if self.mode != Mode::Following {
+            return Ok(Asked::Unknown);
+        }
+        let shown = self.shown[slot.0 as usize];
+        Ok(if shown.id.is_live() { Asked::Contact(shown) } else { Asked::Empty })
+    }
+
+    #[inline]
+    fn step(&mut self, event: Event, counts: &mut Counts) {
+        match self.mode {
+            Mode::Following => self.follow(event, counts),
+            Mode::Dropped => {
+                counts.ignored += 1;
+                if (event.kind, event.code) == (EV_SYN, SYN_REPORT) {
+                    self.mode = Mode::Stale;
+                }
+            }
+            Mode::Stale => {
+                counts.ignored += 1;
+                if (event.kind, event.code) == (EV_SYN, SYN_DROPPED) {
+                    self.mode = Mode::Dropped;
+                }
+            }
+        }
+    }
+
+    #[inline]
+    fn follow(&mut self, event: Event, counts: &mut Counts) {
+        let slot = &mut self.pending[self.current.0 as usize];
+        let taken = match (event.kind, event.code) {
+            (EV_ABS, ABS_MT_POSITION_X) => in_range(event.value, self.setup.largest_x).map(|x| slot.x = x),
+            (EV_ABS, ABS_MT_POSITION_Y) => in_range(event.value, self.setup.largest_y).map(|y| slot.y = y),
+            (EV_ABS, ABS_MT_PRESSURE) => {
+                in_range(event.value, self.setup.largest_pressure).map(|pressure| slot.pressure = pressure)
+            }
+            (EV_ABS, ABS_MT_TRACKING_ID) => id_in_range(event.value).map(|id| slot.id = id),
+            (EV_ABS, ABS_MT_SLOT) => in_range(event.value, self.setup.slots as u32 - 1)
+                .map(|number| self.current = SlotNumber(u64::from(number))),
+            (EV_SYN, SYN_REPORT) => return self.report(counts),
+            (EV_SYN, SYN_DROPPED) => return self.lose(Mode::Dropped),
+            _ => {
+                counts.skipped += 1;
+                return;
+            }
+        };
+        if taken.is_none() {
+            counts.bad += 1;
+            self.lose(Mode::Dropped);
+        }
+    }
+
+    fn report(&mut self, counts: &mut Counts) {
+        if live_ids_differ(&self.pending) {
+            self.shown = self.pending;
+            counts.shown += 1;
+        } else {
+            counts.bad += 1;
+            self.lose(Mode::Stale);
+        }
+    }
+
+    fn lose(&mut self, mode: Mode) {
+        self.pending = self.shown;
+        self.mode = mode;
+    }
+
+    fn image_table(&self, image: &[i32]) -> Option<Table> {
+        if image.len() as u64 != 4 * self.setup.slots {
+            return None;
+        }
+        let mut table = EMPTY;
+        for (slot, numbers) in table.iter_mut().zip(image.chunks_exact(4)) {
+            // An unused slot's numbers are judged too: they become the table's.
+            *slot = Slot {
+                id: id_in_range(numbers[0])?,
+                x: in_range(numbers[1], self.setup.largest_x)?,
+                y: in_range(numbers[2], self.setup.largest_y)?,
+                pressure: in_range(numbers[3], self.setup.largest_pressure)?,
+            };
+        }
+        live_ids_differ(&table).then_some(table)
+    }
+}

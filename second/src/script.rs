@@ -1,0 +1,456 @@
+//! Scripts of calls in the format of docs/DRIVE.md: a line read, written, and answered.
+
+use std::io::{self, BufRead, Write};
+
+use crate::events::Event;
+use crate::pod::{Pod, Report};
+use crate::reader::{Asked, Counts, Mode, Reader};
+use crate::refusal::Refusal;
+use crate::table::{Setup, Slot, SlotNumber, Table, TrackingId, SLOTS};
+use crate::writer::{Writer, Written};
+
+pub const LONGEST_LINE: usize = 65_535;
+pub const MOST_NUMBERS: usize = 12_000;
+pub const LARGEST_BUFFER: usize = 4_096;
+pub const BAD_LINE: &str = "bad line";
+
+#[derive(Clone, PartialEq, Eq, Debug)]
+pub enum Call {
+    Fresh(Setup),
+    New(Setup),
+    Run { reader: Reader, bytes: Vec<u8> },
+    One { reader: Reader, event: Event },
+    Load { reader: Reader, current: SlotNumber, image: Vec<i32> },
+    Ask { reader: Reader, slot: SlotNumber },
+    Write { writer: Writer, position: u64, size: usize, frame: Vec<i32> },
+    Pod { pod: Pod, byte: u8 },
+}
+
+/// The marks that a buffer holds before a `write`.
+pub fn marks(size: usize) -> Vec<u8> {
+    (0..size).map(|i| (37 * i + 11) as u8).collect()
+}
+
+/// True for a line that is passed over and answered by nothing.
+pub fn is_passed_over(line: &[u8]) -> bool {
+    line.is_empty() || line[0] == b'#'
+}
+
+/// Answers every call of a script.
+pub fn answer_all(script: impl BufRead, mut out: impl Write) -> io::Result<()> {
+    for line in script.split(b'\n') {
+        let line = line?;
+        if !is_passed_over(&line) {
+            writeln!(out, "{}", answer_line(&line))?;
+        }
+    }
+    out.flush()
+}
+
+pub fn answer_line(line: &[u8]) -> String {
+    Call::parse(line).map_or_else(|| BAD_LINE.to_string(), |call| call.answer())
+}
+
+impl Call {
+    pub fn parse(line: &[u8]) -> Option<Call> {
+        if line.len() > LONGEST_LINE {
+            return None;
+        }
+        let mut words = std::str::from_utf8(line).ok()?.split(' ').filter(|word| !word.is_empty());
+        let letter = *words.next()?.as_bytes().first()?;
+        let mut numbers = Numbers(words.map(number).collect::<Option<Vec<_>>>()?.into_iter());
+        if numbers.0.len() > MOST_NUMBERS {
+            return None;
+        }
+        let call = match letter {
+            b'f' => Call::Fresh(numbers.setup()?),
+            b'n' => Call::New(numbers.setup()?),
+            b'r' => Call::Run { reader: numbers.reader()?, bytes: numbers.rest()? },
+            b'o' => Call::One {
+                reader: numbers.reader()?,
+                event: Event { kind: numbers.one()?, code: numbers.one()?, value: numbers.one()? },
+            },
+            b'l' => {
+                Call::Load { reader: numbers.reader()?, current: SlotNumber(numbers.one()?), image: numbers.rest()? }
+            }
+            b'a' => Call::Ask { reader: numbers.reader()?, slot: SlotNumber(numbers.one()?) },
+            b'w' => Call::Write {
+                writer: numbers.writer()?,
+                position: numbers.one()?,
+                size: numbers.one::<usize>().filter(|size| *size <= LARGEST_BUFFER)?,
+                frame: numbers.rest()?,
+            },
+            b'p' => Call::Pod { pod: numbers.pod()?, byte: numbers.one()? },
+            _ => return None,
+        };
+        numbers.0.next().is_none().then_some(call)
+    }
+
+    pub fn name(&self) -> &'static str {
+        match self {
+            Call::Fresh(_) => "fresh",
+            Call::New(_) => "new",
+            Call::Run { .. } => "run",
+            Call::One { .. } => "one",
+            Call::Load { .. } => "load",
+            Call::Ask { .. } => "ask",
+            Call::Write { .. } => "write",
+            Call::Pod { .. } => "pod",
+        }
+    }
+
+    pub fn line(&self) -> String {
+        let mut line = Line(self.name().to_string());
+        match self {
+            Call::Fresh(setup) | Call::New(setup) => line.setup(setup),
+            Call::Run { reader, bytes } => {
+                line.reader(reader);
+                line.all(bytes);
+            }
+            Call::One { reader, event } => {
+                line.reader(reader);
+                line.put(event.kind);
+                line.put(event.code);
+                line.put(event.value);
+            }
+            Call::Load { reader, current, image } => {
+                line.reader(reader);
+                line.put(current.0);
+                line.all(image);
+            }
+            Call::Ask { reader, slot } => {
+                line.reader(reader);
+                line.put(slot.0);
+            }
+            Call::Write { writer, position, size, frame } => {
+                line.writer(writer);
+                line.put(position);
+                line.put(size);
+                line.all(frame);
+            }
+            Call::Pod { pod, byte } => {
+                line.pod(pod);
+                line.put(byte);
+            }
+        }
+        line.0
+    }
+
+    pub fn answer(&self) -> String {
+        let mut line = Line(String::new());
+        match self {
+            Call::Fresh(setup) => {
+                let made = Reader::fresh(*setup);
+                line.verdict(&made);
+                line.reader(&made.unwrap_or_default());
+            }
+            Call::New(setup) => {
+                let made = Writer::fresh(*setup);
+                line.verdict(&made);
+                line.writer(&made.unwrap_or_default());
+            }
+            Call::Run { reader, bytes } => {
+                let mut reader = reader.clone();
+                let counts = reader.run(bytes);
+                line.verdict(&counts);
+                line.reader(&reader);
+                line.counts(counts.unwrap_or_default());
+            }
+            Call::One { reader, event } => {
+                let mut reader = reader.clone();
+                let counts = reader.one(*event);
+                line.verdict(&counts);
+                line.reader(&reader);
+                line.counts(counts.unwrap_or_default());
+            }
+            Call::Load { reader, current, image } => {
+                let mut reader = reader.clone();
+                let loaded = reader.load(image, *current);
+                line.verdict(&loaded);
+                line.reader(&reader);
+            }
+            Call::Ask { reader, slot } => match reader.ask(*slot) {
+                Ok(Asked::Contact(slot)) => {
+                    line.put("contact");
+                    line.slot(&slot);
+                }
+                Ok(Asked::Empty) => line.put("empty"),
+                Ok(Asked::Unknown) => line.put("unknown"),
+                Ok(Asked::NoSuchSlot) => line.put("none"),
+                Err(refusal) => line.refused(refusal),
+            },
+            Call::Write { writer, position, size, frame } => {
+                let mut writer = writer.clone();
+                let mut buffer = marks(*size);
+                let written = writer.write(frame, &mut buffer, *position);
+                line.verdict(&written);
+                line.writer(&writer);
+                let Written { events, changed } = written.unwrap_or_default();
+                line.put(events);
+                line.put(changed);
+                line.put(written.err().map_or(0, Refusal::need));
+                line.put(":");
+                line.all(&buffer);
+            }
+            Call::Pod { pod, byte } => {
+                let mut pod = *pod;
+                let report = pod.take(*byte);
+                line.pod(&pod);
+                match report {
+                    Ok(report) => line.put(words(report)),
+                    Err(refusal) => line.refused(refusal),
+                }
+            }
+        }
+        line.0
+    }
+}
+
+/// A pod's answer in words, as `drive` and `show_pod` print it.
+pub fn words(report: Report) -> String {
+    match report {
+        Report::More => "more".to_string(),
+        Report::Down(key) => format!("down {key}"),
+        Report::Up(key) => format!("up {key}"),
+        Report::Absolute { flags, x, y } => format!("absolute {flags} {x} {y}"),
+        Report::Relative { left, right, dx, dy } => format!("relative {} {} {dx} {dy}", left as u8, right as u8),
+        Report::Sticks(zero, one) => {
+            format!("sticks {} {} {} {}", zero.trigger as u8, zero.position, one.trigger as u8, one.position)
+        }
+        Report::Stick { which, stick } => {
+            format!("stick {which} {} {}", stick.trigger as u8, stick.position)
+        }
+        Report::BadByte => "bad byte".to_string(),
+        Report::BadReport => "bad report".to_string(),
+    }
+}
+
+fn number(word: &str) -> Option<i128> {
+    let digits = word.strip_prefix('-').unwrap_or(word);
+    if digits.is_empty() || !digits.bytes().all(|b| b.is_ascii_digit()) {
+        return None;
+    }
+    let value = word.parse::<i128>().ok()?;
+    (i128::from(i64::MIN)..=i128::from(u64::MAX)).contains(&value).then_some(value)
+}
+
+/// The numbers of a line, taken from the front; `None` where one is missing or its type cannot hold it.
+struct Numbers(std::vec::IntoIter<i128>);
+
+impl Numbers {
+    fn one<T: TryFrom<i128>>(&mut self) -> Option<T> {
+        T::try_from(self.0.next()?).ok()
+    }
+
+    fn rest<T: TryFrom<i128>>(&mut self) -> Option<Vec<T>> {
+        self.0.by_ref().map(|n| T::try_from(n).ok()).collect()
+    }
+
+    fn setup(&mut self) -> Option<Setup> {
+        Some(Setup {
+            slots: self.one()?,
+            largest_x: self.one()?,
+            largest_y: self.one()?,
+            largest_pressure: self.one()?,
+        })
+    }
+
+    fn table(&mut self) -> Option<Table> {
+        let mut table = [Slot::default(); SLOTS];
+        for slot in &mut table {
+            *slot = Slot { id: TrackingId(self.one()?), x: self.one()?, y: self.one()?, pressure: self.one()? };
+        }
+        Some(table)
+    }
+
+    fn reader(&mut self) -> Option<Reader> {
+        Some(Reader {
+            setup: self.setup()?,
+            current: SlotNumber(self.one()?),
+            mode: match self.0.next()? {
+                0 => Mode::Following,
+                1 => Mode::Dropped,
+                2 => Mode::Stale,
+                _ => return None,
+            },
+            shown: self.table()?,
+            pending: self.table()?,
+        })
+    }
+
+    fn writer(&mut self) -> Option<Writer> {
+        Some(Writer {
+            setup: self.setup()?,
+            current: SlotNumber(self.one()?),
+            counter: self.one()?,
+            table: self.table()?,
+        })
+    }
+
+    fn pod(&mut self) -> Option<Pod> {
+        let mut pod = Pod { held: self.one()?, bytes: [0; 5] };
+        for byte in &mut pod.bytes {
+            *byte = self.one()?;
+        }
+        Some(pod)
+    }
+}
+
+/// A line being built, one space between its parts.
+struct Line(String);
+
+impl Line {
+    fn put(&mut self, part: impl std::fmt::Display) {
+        use std::fmt::Write;
+        if !self.0.is_empty() {
+            self.0.push(' ');
+        }
+        write!(self.0, "{part}").expect("a string takes everything");
+    }
+
+    fn all<T: std::fmt::Display>(&mut self, parts: &[T]) {
+        for part in parts {
+            self.put(part);
+        }
+    }
+
+    fn verdict<T>(&mut self, outcome: &Result<T, Refusal>) {
+        self.put(outcome.as_ref().err().map_or(0, |refusal| refusal.number()));
+    }
+
+    fn refused(&mut self, refusal: Refusal) {
+        self.put("refused");
+        self.put(refusal.number());
+    }
+
+    fn setup(&mut self, setup: &Setup) {
+        self.put(setup.slots);
+        self.put(setup.largest_x);
+        self.put(setup.largest_y);
+        self.put(setup.largest_pressure);
+    }
+
+    fn slot(&mut self, slot: &Slot) {
+        self.put(slot.id.0);
+        self.put(slot.x);
+        self.put(slot.y);
+        self.put(slot.pressure);
+    }
+
+    fn table(&mut self, table: &Table) {
+        for slot in table {
+            self.slot(slot);
+        }
+    }
+
+    fn reader(&mut self, reader: &Reader) {
+        self.setup(&reader.setup);
+        self.put(reader.current.0);
+        self.put(match reader.mode {
+            Mode::Following => 0,
+            Mode::Dropped => 1,
+            Mode::Stale => 2,
+        });
+        self.table(&reader.shown);
+        self.table(&reader.pending);
+    }
+
+    fn writer(&mut self, writer: &Writer) {
+        self.setup(&writer.setup);
+        self.put(writer.current.0);
+        self.put(writer.counter);
+        self.table(&writer.table);
+    }
+
+    fn pod(&mut self, pod: &Pod) {
+        self.put(pod.held);
+        self.all(&pod.bytes);
+    }
+
+    fn counts(&mut self, counts: Counts) {
+        self.put(counts.shown);
+        self.put(counts.skipped);
+        self.put(counts.bad);
+        self.put(counts.ignored);
+    }
+}
+
+#[cfg(test)]
+mod tests {
+    use super::*;
+
+    fn answer(line: &str) -> String {
+        answer_line(line.as_bytes())
+    }
+
+    const UNUSED: &str = "-1 0 0 0 ";
+
+    #[test]
+    fn the_example_of_the_format() {
+        let table = UNUSED.repeat(16);
+        let landed = format!("0 0 0 0 {}", UNUSED.repeat(15));
+        assert_eq!(
+            answer(&format!("one 1 4000 4000 255 0 0 {table}{table}3 57 0")),
+            format!("0 1 4000 4000 255 0 0 {table}{landed}0 0 0 0")
+        );
+    }
+
+    #[test]
+    fn a_refused_setup_leaves_zeros() {
+        assert_eq!(answer("new 0 1 1 1"), format!("1{}", " 0".repeat(70)));
+        assert_eq!(answer("fresh 17 1 1 1"), format!("1{}", " 0".repeat(134)));
+    }
+
+    #[test]
+    fn a_buffer_keeps_its_marks() {
+        let table = UNUSED.repeat(16);
+        assert_eq!(
+            answer(&format!("write 1 9 9 9 0 0 {table}0 4 0 0 0 0")),
+            format!("0 1 9 9 9 0 0 {table}0 0 0 : 11 48 85 122")
+        );
+        assert_eq!(answer(&format!("write 1 9 9 9 0 0 {table}0 0 0 0 0 0")), format!("0 1 9 9 9 0 0 {table}0 0 0 :"));
+    }
+
+    #[test]
+    fn lines_that_are_no_call() {
+        let table = UNUSED.repeat(16);
+        for line in [
+            " ".to_string(),
+            "zero 1 2 3 4".to_string(),
+            "1 2 3 4".to_string(),
+            "fresh 1 2 3".to_string(),
+            "fresh 1 2 3 4 5".to_string(),
+            "fresh 1 2 3 x".to_string(),
+            "fresh 1 2 3 +4".to_string(),
+            "fresh 1 2 3 -".to_string(),
+            "fresh -1 2 3 4".to_string(),
+            "fresh 1 2 3 4294967296".to_string(),
+            "fresh 18446744073709551616 2 3 4".to_string(),
+            "pod 0 0 0 0 0 0 256".to_string(),
+            "pod 0 0 0 0 0 0".to_string(),
+            format!("write 1 9 9 9 0 0 {table}0 4097 0 0 0 0"),
+            format!("write 1 9 9 9 0 0 {table}0 0 0 0 0 2147483648"),
+            format!("ask 1 9 9 9 0 3 {table}{table}0"),
+            format!("run 1 9 9 9 0 0 {table}{table}{}", "0 ".repeat(12_000)),
+            format!("fresh 1 2 3 4{}", " ".repeat(LONGEST_LINE)),
+        ] {
+            assert_eq!(answer(&line), BAD_LINE, "{line}");
+        }
+    }
+
+    #[test]
+    fn only_the_first_letter_counts_and_spaces_may_repeat() {
+        assert_eq!(answer("f  1 2  3 4"), answer("fresh 1 2 3 4"));
+        assert_eq!(answer("pod 0 0 0 0 0 0 1"), "0 0 0 0 0 0 down 1");
+        let full = 12_000 - 134;
+        let table = UNUSED.repeat(16);
+        assert!(answer(&format!("r 1 9 9 9 0 0 {table}{table}{}", "0 ".repeat(full))).starts_with("6 "));
+    }
+
+    #[test]
+    fn passed_over() {
+        let mut out = Vec::new();
+        answer_all(&b"# a name\n\npod 0 0 0 0 0 0 0\npod 0 0 0 0 0 0 254"[..], &mut out).unwrap();
+        assert_eq!(out, b"0 0 0 0 0 0 bad byte\n1 254 0 0 0 0 more\n");
+    }
+}

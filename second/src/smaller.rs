@@ -1,0 +1,279 @@
+//! Smaller calls than one that was answered differently: what is tried to find the shortest script that shows a difference.
+
+use crate::events::{events, Event, ABS_MT_SLOT, EV_ABS, RECORD};
+use crate::reader::{Mode, Reader};
+use crate::script::Call;
+use crate::table::{Setup, Slot, SlotNumber, Table, SLOTS};
+
+/// Calls that are smaller than this one, the smallest first; which of them still differ is for the caller to find out.
+/// Each keeps the verdict, or a frame sent wrongly would end as one for which there is no room.
+pub fn smaller(call: &Call) -> Vec<Call> {
+    let verdict = verdict_of(call);
+    let mut found = Vec::new();
+    candidates(call, &mut |candidate| found.push(candidate));
+    let weight = weight_of(call);
+    let mut weighed: Vec<_> = found
+        .into_iter()
+        .map(|call| (weight_of(&call), call))
+        .filter(|(candidate, call)| *candidate < weight && verdict_of(call) == verdict)
+        .collect();
+    weighed.sort_by_key(|(weight, _)| *weight);
+    weighed.dedup_by(|a, b| a.1 == b.1);
+    weighed.into_iter().map(|(_, call)| call).collect()
+}
+
+fn verdict_of(call: &Call) -> Option<String> {
+    call.answer().split(' ').next().map(str::to_string)
+}
+
+/// Fewer numbers first, then more of them plain, then fewer slots, then fewer digits. Every candidate taken makes it smaller, so shrinking ends.
+fn weight_of(call: &Call) -> (usize, usize, u64, usize) {
+    let line = call.line();
+    let words = || line.split(' ').skip(1);
+    let (size, slots) = match call {
+        Call::Write { size, writer, .. } => (*size, writer.setup.slots),
+        Call::Run { reader, .. } | Call::One { reader, .. } | Call::Load { reader, .. } | Call::Ask { reader, .. } => {
+            (0, reader.setup.slots)
+        }
+        Call::Fresh(_) | Call::New(_) | Call::Pod { .. } => (0, 0),
+    };
+    (words().count() + size, words().filter(|word| !matches!(*word, "0" | "-1")).count(), slots, line.len())
+}
+
+fn candidates(call: &Call, give: &mut dyn FnMut(Call)) {
+    match call {
+        Call::Fresh(_) | Call::New(_) | Call::Pod { .. } => {}
+        Call::Run { reader, bytes } => {
+            smaller_readers(reader, &mut |reader| give(Call::Run { reader, bytes: bytes.clone() }));
+            for s in slots_of(&reader.setup) {
+                let ragged = bytes.chunks_exact(RECORD).remainder();
+                let events = events(bytes).flat_map(|event| event_without(event, s).to_bytes());
+                give(Call::Run {
+                    reader: reader_without(reader, s),
+                    bytes: events.chain(ragged.iter().copied()).collect(),
+                });
+            }
+            for part in parts(bytes.len(), RECORD) {
+                let mut bytes = bytes.clone();
+                bytes.drain(part);
+                give(Call::Run { reader: reader.clone(), bytes });
+            }
+            if bytes.len() % RECORD > 1 {
+                give(Call::Run { reader: reader.clone(), bytes: bytes[..bytes.len() - 1].to_vec() });
+            }
+        }
+        Call::One { reader, event } => {
+            smaller_readers(reader, &mut |reader| give(Call::One { reader, event: *event }));
+            for s in slots_of(&reader.setup) {
+                give(Call::One { reader: reader_without(reader, s), event: event_without(*event, s) });
+            }
+        }
+        Call::Ask { reader, slot } => {
+            smaller_readers(reader, &mut |reader| give(Call::Ask { reader, slot: *slot }));
+            for s in slots_of(&reader.setup) {
+                give(Call::Ask { reader: reader_without(reader, s), slot: number_without(*slot, s) });
+            }
+        }
+        Call::Load { reader, current, image } => {
+            smaller_readers(reader, &mut |reader| give(Call::Load { reader, current: *current, image: image.clone() }));
+            for s in slots_of(&reader.setup) {
+                give(Call::Load {
+                    reader: reader_without(reader, s),
+                    current: number_without(*current, s),
+                    image: numbers_without(image, s),
+                });
+            }
+            smaller_numbers(image, -1, &mut |image| {
+                give(Call::Load { reader: reader.clone(), current: *current, image })
+            });
+            give(Call::Load { reader: reader.clone(), current: SlotNumber(0), image: image.clone() });
+        }
+        Call::Write { writer, position, size, frame } => {
+            let with = |position: u64, size: usize, frame: Vec<i32>| Call::Write {
+                writer: writer.clone(),
+                position,
+                size,
+                frame,
+            };
+            smaller_numbers(frame, 0, &mut |frame| give(with(*position, *size, frame)));
+            for less in [*position, position / 2, 1] {
+                if less > 0 && less <= *position && less <= *size as u64 {
+                    give(with(position - less, size - less as usize, frame.clone()));
+                }
+            }
+            for less in [*size, size / 2, 64, 8, 1] {
+                if less > 0 && less <= *size {
+                    give(with(*position, size - less, frame.clone()));
+                }
+            }
+            for s in slots_of(&writer.setup) {
+                let mut writer = writer.clone();
+                take_slot(&mut writer.table, s);
+                writer.setup.slots -= 1;
+                writer.current = number_without(writer.current, s);
+                give(Call::Write { writer, position: *position, size: *size, frame: numbers_without(frame, s) });
+            }
+            // A slot unused in table and frame alike stays quiet; in one of them alone it would begin or lift.
+            for s in 0..SLOTS.min(frame.len() / 4) {
+                let (mut writer, mut frame) = (writer.clone(), frame.clone());
+                writer.table[s] = Slot::UNUSED;
+                frame[4 * s..4 * s + 4].fill(0);
+                give(Call::Write { writer, position: *position, size: *size, frame });
+            }
+            smaller_tables(&writer.table, &mut |table| {
+                let mut writer = writer.clone();
+                writer.table = table;
+                give(Call::Write { writer, position: *position, size: *size, frame: frame.clone() });
+            });
+            for (current, counter) in [(SlotNumber(0), writer.counter), (writer.current, 0)] {
+                let mut writer = writer.clone();
+                writer.current = current;
+                writer.counter = counter;
+                give(Call::Write { writer, position: *position, size: *size, frame: frame.clone() });
+            }
+        }
+    }
+}
+
+/// Runs of whole parts to leave out: a half, a quarter, and so on down to each one.
+fn parts(length: usize, part: usize) -> Vec<std::ops::Range<usize>> {
+    let mut found = Vec::new();
+    let mut many = length / part / 2 * part;
+    loop {
+        let step = many.max(part);
+        found.extend(
+            (0..(length / part * part))
+                .step_by(step)
+                .filter(|start| start + step <= length)
+                .map(|start| start..start + step),
+        );
+        if step == part {
+            return found;
+        }
+        many = many / part / 2 * part;
+    }
+}
+
+/// One slot's four numbers plain, or one number 0, of a frame or an image.
+fn smaller_numbers(numbers: &[i32], plain: i32, give: &mut dyn FnMut(Vec<i32>)) {
+    for s in 0..numbers.len() / 4 {
+        let mut fewer = numbers.to_vec();
+        fewer[4 * s..4 * s + 4].copy_from_slice(&[plain, 0, 0, 0]);
+        give(fewer);
+    }
+    for i in 0..numbers.len() {
+        let mut fewer = numbers.to_vec();
+        fewer[i] = 0;
+        give(fewer);
+    }
+    if numbers.len() % 4 != 0 || numbers.len() > 64 {
+        give(numbers[..numbers.len() - 1].to_vec());
+    }
+}
+
+fn smaller_readers(reader: &Reader, give: &mut dyn FnMut(Reader)) {
+    let with = |shown: Table, pending: Table| Reader { shown, pending, ..reader.clone() };
+    // Both at once, since while lost they must stay equal.
+    if reader.shown == reader.pending {
+        smaller_tables(&reader.shown, &mut |table| give(with(table, table)));
+    }
+    if reader.mode == Mode::Following || reader.shown != reader.pending {
+        smaller_tables(&reader.shown, &mut |table| give(with(table, reader.pending)));
+        smaller_tables(&reader.pending, &mut |table| give(with(reader.shown, table)));
+    }
+    give(Reader { current: SlotNumber(0), ..reader.clone() });
+}
+
+fn smaller_tables(table: &Table, give: &mut dyn FnMut(Table)) {
+    for s in 0..table.len() {
+        let slot = table[s];
+        for fewer in [Slot::UNUSED, Slot { x: 0, ..slot }, Slot { y: 0, ..slot }, Slot { pressure: 0, ..slot }] {
+            let mut table = *table;
+            table[s] = fewer;
+            give(table);
+        }
+    }
+}
+
+/// The slots of which one may be taken out, so that one is left.
+fn slots_of(setup: &Setup) -> std::ops::Range<usize> {
+    match setup.slots {
+        n @ 2..=16 => 0..n as usize,
+        _ => 0..0,
+    }
+}
+
+fn take_slot(table: &mut Table, s: usize) {
+    table.copy_within(s + 1.., s);
+    table[SLOTS - 1] = Slot::UNUSED;
+}
+
+fn reader_without(reader: &Reader, s: usize) -> Reader {
+    let mut fewer = reader.clone();
+    take_slot(&mut fewer.shown, s);
+    take_slot(&mut fewer.pending, s);
+    fewer.setup.slots -= 1;
+    fewer.current = number_without(fewer.current, s);
+    fewer
+}
+
+fn number_without(slot: SlotNumber, s: usize) -> SlotNumber {
+    SlotNumber(slot.0 - u64::from(slot.0 > s as u64))
+}
+
+fn event_without(event: Event, s: usize) -> Event {
+    if (event.kind, event.code) == (EV_ABS, ABS_MT_SLOT) && event.value > s as i32 {
+        return Event::abs(ABS_MT_SLOT, event.value - 1);
+    }
+    event
+}
+
+fn numbers_without(numbers: &[i32], s: usize) -> Vec<i32> {
+    let mut fewer = numbers.to_vec();
+    if fewer.len() >= 4 * s + 4 {
+        fewer.drain(4 * s..4 * s + 4);
+    }
+    fewer
+}
+
+#[cfg(test)]
+mod tests {
+    use super::*;
+    use crate::brief::shorten;
+    use crate::maker::Maker;
+
+    /// A reader that clears x where an id changes, found by its answer to a run: shrunk from a long call, one finger and one event are left.
+    #[test]
+    fn a_long_call_becomes_a_short_one() {
+        let differs = |call: &Call| match call {
+            Call::Run { reader, bytes } => {
+                let mut reader = reader.clone();
+                let before = reader.clone();
+                reader.run(bytes).is_ok()
+                    && reader.pending.iter().zip(before.pending).any(|(now, then)| now.id != then.id && then.x > 0)
+            }
+            _ => false,
+        };
+        let mut maker = Maker::new(11);
+        let mut call = loop {
+            let lines = maker.lines();
+            let line = lines.lines().nth(1).unwrap();
+            match Call::parse(line.as_bytes()) {
+                Some(call @ Call::Run { .. }) if differs(&call) && line.len() > 1500 => break call,
+                _ => {}
+            }
+        };
+        while let Some(next) = smaller(&call).into_iter().find(|call| differs(call)) {
+            call = next;
+        }
+        let short = shorten(&call);
+        assert!(short.len() < 150 && short.matches('{').count() <= 3, "{short}");
+    }
+
+    #[test]
+    fn parts_are_halves_down_to_single_ones() {
+        assert_eq!(parts(20, 8), [0..8, 8..16]);
+        assert_eq!(parts(32, 8), [0..16, 16..32, 0..8, 8..16, 16..24, 24..32]);
+        assert!(parts(7, 8).is_empty());
+    }
+}

@@ -1,0 +1,173 @@
+//! The type B writer: a frame judged, planned and sent as records into the caller's buffer.
+
+use crate::events::*;
+use crate::refusal::Refusal;
+use crate::table::*;
+
+/// The default is not a fresh state but the zeros that stand in an answer with refusal 1.
+#[derive(Clone, PartialEq, Eq, Debug, Default)]
+pub struct Writer {
+    pub setup: Setup,
+    pub current: SlotNumber,
+    pub counter: u32,
+    pub table: Table,
+}
+
+#[derive(Clone, Copy, PartialEq, Eq, Debug, Default)]
+pub struct Written {
+    pub events: u32,
+    /// Bit s for slot s.
+    pub changed: u16,
+}
+
+/// What a good frame asks for; nothing of the state moves before there is room for it.
+struct Plan {
+    table: Table,
+    counter: u32,
+    written: Written,
+}
+
+impl Writer {
+    pub fn fresh(setup: Setup) -> Result<Writer, Refusal> {
+        if !setup.is_good() {
+            return Err(Refusal::Setup);
+        }
+        Ok(Writer { setup, current: SlotNumber(0), counter: 0, table: EMPTY })
+    }
+
+    pub fn is_well_formed(&self) -> bool {
+        self.setup.is_good()
+            && self.current.0 < self.setup.slots
+            && self.counter <= LARGEST_ID
+            && is_good_table(&self.setup, &self.table)
+            && live_ids_differ(&self.table)
+    }
+
+    pub fn write(&mut self, frame: &[i32], buffer: &mut [u8], position: u64) -> Result<Written, Refusal> {
+        if !self.is_well_formed() {
+            return Err(Refusal::State);
+        }
+        if frame.len() as u64 != 4 * self.setup.slots {
+            return Err(Refusal::Frame);
+        }
+        let plan = self.plan(frame).ok_or(Refusal::Value)?;
+        let need = plan.written.events as usize * RECORD;
+        // Two steps, not `position..position + need`: the sum overflows near 2^64.
+        let room = usize::try_from(position)
+            .ok()
+            .and_then(|position| buffer.get_mut(position..))
+            .and_then(|rest| rest.get_mut(..need))
+            .ok_or(Refusal::NoRoom { need: need as u64 })?;
+        self.send(&plan, room);
+        self.table = plan.table;
+        self.counter = plan.counter;
+        Ok(plan.written)
+    }
+
+    fn plan(&self, frame: &[i32]) -> Option<Plan> {
+        let mut table = self.table;
+        let mut counter = self.counter;
+        let mut changed = 0u16;
+        let mut numbers = 0;
+        for (s, wanted) in frame.chunks_exact(4).enumerate() {
+            let old = self.table[s];
+            let new = match wanted[0] {
+                0 => Slot { id: TrackingId::UNUSED, ..old },
+                kind @ (1 | 2) => {
+                    let x = in_range(wanted[1], self.setup.largest_x)?;
+                    let y = in_range(wanted[2], self.setup.largest_y)?;
+                    let pressure = in_range(wanted[3], self.setup.largest_pressure)?;
+                    let id = if kind == 1 && old.id.is_live() {
+                        old.id
+                    } else {
+                        let id = self.first_free(counter, &table[..s]);
+                        counter = after(id);
+                        TrackingId(id as i32)
+                    };
+                    Slot { id, x, y, pressure }
+                }
+                _ => return None,
+            };
+            let differing = u32::from(new.id != old.id)
+                + u32::from(new.x != old.x)
+                + u32::from(new.y != old.y)
+                + u32::from(new.pressure != old.pressure);
+            numbers += differing;
+            changed |= u16::from(differing != 0) << s;
+            table[s] = new;
+        }
+        let events = if changed == 0 {
+            0
+        } else {
+            // One SLOT for each changed slot but the current one, and the report.
+            let without_slot = u32::from(changed >> self.current.0 & 1);
+            numbers + changed.count_ones() - without_slot + 1
+        };
+        Some(Plan { table, counter, written: Written { events, changed } })
+    }
+
+    /// `so_far` holds the new slots below the one that asks. Besides the ids given in this frame it holds kept ones, which are live in the old table anyway.
+    fn first_free(&self, from: u32, so_far: &[Slot]) -> u32 {
+        let mut id = from;
+        // Ends: at most 16 ids are live and 16 given, of 65,536.
+        loop {
+            let wanted = TrackingId(id as i32);
+            let taken = |slots: &[Slot]| slots.iter().any(|slot| slot.id == wanted);
+            if !taken(&self.table) && !taken(so_far) {
+                return id;
+            }
+            id = after(id);
+        }
+    }
+
+    fn send(&mut self, plan: &Plan, room: &mut [u8]) {
+        if plan.written.changed == 0 {
+            return;
+        }
+        let mut places = room.chunks_exact_mut(RECORD);
+        let mut put = |event: Event| {
+            let place = places.next().expect("the plan counted every event");
+            place.copy_from_slice(&event.to_bytes());
+        };
+        let mut put_slot = |s: usize, named: bool| {
+            let (old, new) = (&self.table[s], &plan.table[s]);
+            if named {
+                put(Event::abs(ABS_MT_SLOT, s as i32));
+            }
+            if new.id != old.id {
+                put(Event::abs(ABS_MT_TRACKING_ID, new.id.0));
+            }
+            if new.x != old.x {
+                put(Event::abs(ABS_MT_POSITION_X, new.x as i32));
+            }
+            if new.y != old.y {
+                put(Event::abs(ABS_MT_POSITION_Y, new.y as i32));
+            }
+            if new.pressure != old.pressure {
+                put(Event::abs(ABS_MT_PRESSURE, new.pressure as i32));
+            }
+        };
+        let current = self.current.0 as usize;
+        let mut others = plan.written.changed & !(1 << current);
+        if others != plan.written.changed {
+            put_slot(current, false);
+        }
+        let mut last = current;
+        while others != 0 {
+            last = others.trailing_zeros() as usize;
+            put_slot(last, true);
+            others &= others - 1;
+        }
+        put(Event::REPORT);
+        debug_assert!(places.next().is_none());
+        self.current = SlotNumber(last as u64);
+    }
+}
+
+fn after(id: u32) -> u32 {
+    if id == LARGEST_ID {
+        0
+    } else {
+        id + 1
+    }
+}

@@ -1,0 +1,140 @@
+//! What must hold of every call, tried on random scripts: what is sent reads back, counts fit, refusals change nothing.
+
+mod common;
+
+use common::bytes;
+use second::events::*;
+use second::maker::Maker;
+use second::reader::{Mode, Reader};
+use second::script::Call;
+use second::table::{Slot, TrackingId};
+use second::writer::Writer;
+
+fn calls(seed: u64, count: usize) -> Vec<Call> {
+    let mut maker = Maker::new(seed);
+    (0..count).filter_map(|_| Call::parse(maker.lines().lines().nth(1).unwrap().as_bytes())).collect()
+}
+
+/// The table that a frame asks for but for ids, said the slow way.
+fn asked(before: &Slot, wanted: &[i32]) -> Slot {
+    match wanted[0] {
+        0 => Slot { id: TrackingId::UNUSED, ..*before },
+        _ => Slot { id: before.id, x: wanted[1] as u32, y: wanted[2] as u32, pressure: wanted[3] as u32 },
+    }
+}
+
+#[test]
+fn frames() {
+    let mut accepted = 0;
+    for call in calls(21, 20_000) {
+        let Call::Write { writer, position, size, frame } = call else {
+            continue;
+        };
+        let mut after = writer.clone();
+        let mut buffer = second::script::marks(size);
+        let Ok(written) = after.write(&frame, &mut buffer, position) else {
+            assert_eq!(after, writer);
+            assert_eq!(buffer, second::script::marks(size));
+            continue;
+        };
+        accepted += 1;
+        assert!(after.is_well_formed());
+
+        // Only the records' bytes changed.
+        let (start, end) = (position as usize, position as usize + written.events as usize * RECORD);
+        let marks = second::script::marks(size);
+        assert_eq!(buffer[..start], marks[..start]);
+        assert_eq!(buffer[end..], marks[end..]);
+
+        // The ids, chosen by a search that keeps every number that is taken.
+        let mut taken: Vec<i32> = writer.table.iter().map(|slot| slot.id.0).collect();
+        let mut counter = writer.counter as i32;
+        for (s, wanted) in frame.chunks(4).enumerate() {
+            let before = &writer.table[s];
+            let mut expected = asked(before, wanted);
+            if wanted[0] == 2 || (wanted[0] == 1 && before.id.0 == -1) {
+                while taken.contains(&counter) {
+                    counter = (counter + 1) % 65_536;
+                }
+                expected.id = TrackingId(counter);
+                taken.push(counter);
+                counter = (counter + 1) % 65_536;
+            }
+            assert_eq!(after.table[s], expected);
+            assert_eq!(written.changed >> s & 1 == 1, expected != *before);
+        }
+        assert_eq!(after.counter as i32, counter);
+
+        // A reader that saw the old table sees the new one.
+        let mut reader = Reader {
+            setup: writer.setup,
+            current: writer.current,
+            mode: Mode::Following,
+            shown: writer.table,
+            pending: writer.table,
+        };
+        let counts = reader.run(&buffer[start..end]).unwrap();
+        assert_eq!(counts.shown, u64::from(written.events > 0));
+        assert_eq!((counts.skipped, counts.bad, counts.ignored), (0, 0, 0));
+        assert_eq!(reader.shown, after.table);
+        assert_eq!(reader.pending, after.table);
+        assert_eq!(reader.current, after.current);
+
+        // The fewest events: what changed, a SLOT for each changed slot but the current one, a report.
+        let changed = (0..16).filter(|s| after.table[*s] != writer.table[*s]);
+        let slots = changed.clone().count();
+        let numbers: usize = changed
+            .map(|s| {
+                let (a, b) = (after.table[s], writer.table[s]);
+                usize::from(a.id != b.id)
+                    + usize::from(a.x != b.x)
+                    + usize::from(a.y != b.y)
+                    + usize::from(a.pressure != b.pressure)
+            })
+            .sum();
+        let current = writer.current.0 as usize;
+        let free = usize::from(after.table[current] != writer.table[current]);
+        let fewest = if slots == 0 { 0 } else { numbers + slots - free + 1 };
+        assert_eq!(written.events as usize, fewest);
+        assert_eq!(written.changed.count_ones() as usize, slots);
+    }
+    assert!(accepted > 2000);
+}
+
+#[test]
+fn runs_are_their_records_one_after_the_other() {
+    for call in calls(22, 6_000) {
+        let Call::Run { reader, bytes: records } = call else {
+            continue;
+        };
+        let mut after = reader.clone();
+        let Ok(counts) = after.run(&records) else {
+            assert_eq!(after, reader);
+            continue;
+        };
+        assert!(after.is_well_formed());
+        let mut slow = reader.clone();
+        let mut sums = [0; 4];
+        for event in events(&records) {
+            let one = slow.one(event).unwrap();
+            for (sum, count) in sums.iter_mut().zip([one.shown, one.skipped, one.bad, one.ignored]) {
+                *sum += count;
+            }
+        }
+        assert_eq!(slow, after);
+        assert_eq!(sums, [counts.shown, counts.skipped, counts.bad, counts.ignored]);
+    }
+}
+
+#[test]
+fn all_sixteen_slots_land_in_eighty_events() {
+    let setup = common::panel(16);
+    let mut writer = Writer::fresh(setup).unwrap();
+    let frame = [1, 1, 1, 1].repeat(16);
+    let mut buffer = [0; 640];
+    assert_eq!(writer.write(&frame, &mut buffer, 0).unwrap().events, 80);
+    let mut reader = Reader::fresh(setup).unwrap();
+    reader.run(&buffer).unwrap();
+    assert_eq!(reader.shown, writer.table);
+    assert_eq!(bytes(&[Event::REPORT]), buffer[632..]);
+}
