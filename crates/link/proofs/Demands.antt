@@ -1,5 +1,5 @@
 -- Demands 2 and 3 of the code: from the promises of `writer::write` and `reader::run` alone, in bytes. `Wrote` and `Ran` are those contracts' own equations. Assumes nothing.
-use mathlib.Core.Path.{_≡_, refl, sym, ap, ap₂, _∙_, subst}
+use mathlib.Core.Path.{_≡_, refl, sym, ap, ap₂, _∙_}
 use mathlib.Core.Bool.{cond}
 use mathlib.Core.List.{List}
 use Prim.Native.Nat.{ℕ, _*_, _/_, _≤_}
@@ -22,7 +22,7 @@ use Rattle.runs.specs.declared.Mode.the-variants.{Following}
 use Rattle.runs.specs.declared.ReaderState.{ReaderState}
 use Rattle.runs.specs.declared.RunAnswer.{RunAnswer}
 use Rattle.runs.specs.Seen as R
-use Rattle.runs.specs.Seen.{ranFrom, countsFrom, modeOf}
+use Rattle.runs.specs.Seen.{ranFrom, countsFrom}
 
 -- What `write` promises of its answer and of the buffer afterwards.
 abbrev pub Wrote : WriterState → List ℤ → ℕ → List ℕ → Written → List ℕ → Type 0

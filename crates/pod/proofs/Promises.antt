@@ -1,14 +1,13 @@
 -- What the pod's promises settle: one answer for every input, document 01's refusal number and numbers of it, and well-formed states.
 -- Cited by the proofs of show_pod; assumes nothing.
-use mathlib.Core.Path.{_≡_, refl, sym, ap, _∙_}
+use mathlib.Core.Path.{_≡_, refl, ap, _∙_}
 use mathlib.Core.Bool.{true, cond}
 use mathlib.Core.List.{List, _∷_, _++_}
 use Prim.Native.Nat.{ℕ}
 use Rattle.model.specs.Pod as M
 use Rattle.model.proofs.Pod.{step-formed, refusal-exact, run-cut}
 use Rattle.pod.specs.declared.PodState.{PodState}
-use Rattle.pod.specs.declared.PodAnswer.{PodAnswer}
-use Rattle.pod.specs.Seen.{seen, held, heldReport, reportSeen, refusalOf, numbersOf, freshState, stepAnswer, stateAfter}
+use Rattle.pod.specs.Seen.{seen, held, heldReport, reportSeen, refusalOf, numbersOf, stepAnswer, stateAfter}
 
 -- What is seen of a state is held again.
 pub held-seen : (s : PodState) → held (seen s) ≡ s
@@ -30,18 +29,6 @@ report-seen (M.oneStick which t p) = refl
 report-seen M.badByte = refl
 report-seen M.badReport = refl
 report-seen M.refused = refl
-
--- Two values that equal a third are equal.
-settled : {A : Type 0} {x a b : A} → a ≡ x → b ≡ x → a ≡ b
-settled p q = p ∙ sym q
-
--- Any two results that `fresh` allows are equal.
-pub settled-fresh : (a b : PodState) → a ≡ freshState → b ≡ freshState → a ≡ b
-settled-fresh a b p q = settled p q
-
--- Any two results that `step` allows are equal.
-pub settled-step : (s : PodState) (byte : ℕ) (a b : PodAnswer) → a ≡ stepAnswer s byte → b ≡ stepAnswer s byte → a ≡ b
-settled-step s byte a b p q = settled p q
 
 -- A step keeps a state well formed.
 pub step-steady : (s : PodState) (byte : ℕ) → M.wellFormed (seen s) ≡ true → M.wellFormed (seen (stepAnswer s byte .state)) ≡ true

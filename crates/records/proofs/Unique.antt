@@ -1,6 +1,6 @@
 -- The promises on records leave no choice: each law is of the contract itself. Assumes nothing.
 use mathlib.Core.Path.{_≡_, sym, ap, _∙_}
-use Prim.Native.Nat.{ℕ, _<_}
+use Prim.Native.Nat.{_<_}
 use denote.Ref.{now}
 use Rattle.model.specs.Events as E
 use Rattle.model.specs.Records.{bitsOf}

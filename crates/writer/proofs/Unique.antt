@@ -1,5 +1,5 @@
 -- The writer's promises leave no choice: each law is of the contract itself. Assumes nothing.
-use mathlib.Core.Path.{_≡_, sym, _∙_}
+use mathlib.Core.Path.{sym, _∙_}
 use denote.Ref.{now}
 use Rattle.model.specs.Unique.{OneAnswer, OneLeft}
 use Rattle.writer.proofs.WriterState.fresh.Reads as fresh
