@@ -3,13 +3,8 @@ use panel::RECORDS;
 use panel::Setup;
 use panel::Slot;
 use panel::TrackingId;
-use pod::Absolute;
-use pod::BothSticks;
-use pod::OneStick;
 use pod::PodState;
-use pod::Relative;
 use pod::Report;
-use pod::Stick;
 use reader::FreshAnswer;
 use reader::Mode;
 use reader::ReaderState;
@@ -27,32 +22,9 @@ const AT: usize = 3;
 
 const FILLED: u8 = 170;
 
-fn say_number(n: u64) {
-    stream::say(b" ");
-    stream::say_number(n);
-}
-
-fn say_signed(v: i8) {
-    stream::say(b" ");
-    stream::say_signed(v as i32);
-}
-
-fn say_bit(on: bool) {
-    if on {
-        stream::say(b" 1");
-    } else {
-        stream::say(b" 0");
-    }
-}
-
-fn say_part(name: &[u8], n: u64) {
-    stream::say(name);
-    say_number(n);
-}
-
 // By itself, since a parameter is known to fit its type, which spares a proof that an element of a slice does.
 fn say_byte(b: u8) {
-    say_number(b as u64);
+    words::say_number(b as u64);
 }
 
 fn say_bytes(bytes: &[u8]) {
@@ -65,10 +37,10 @@ fn say_bytes(bytes: &[u8]) {
 }
 
 fn say_setup(s: Setup) {
-    say_part(b" setup", s.n as u64);
-    say_number(s.x as u64);
-    say_number(s.y as u64);
-    say_number(s.pressure as u64);
+    words::say_part(b" setup", s.n as u64);
+    words::say_number(s.x as u64);
+    words::say_number(s.y as u64);
+    words::say_number(s.pressure as u64);
 }
 
 fn say_slot(s: Slot) {
@@ -105,8 +77,8 @@ fn say_writer(s: WriterState) {
     let current = s.current;
     let table = s.table;
     say_setup(setup);
-    say_part(b" current", current.0 as u64);
-    say_part(b" counter", s.counter as u64);
+    words::say_part(b" current", current.0 as u64);
+    words::say_part(b" counter", s.counter as u64);
     say_table(b" table", table);
 }
 
@@ -118,7 +90,7 @@ fn say_reader(s: ReaderState) {
     let pending = s.pending;
     say_mode(mode);
     say_setup(setup);
-    say_part(b" current", current.0 as u64);
+    words::say_part(b" current", current.0 as u64);
     say_table(b" shown", shown);
     say_table(b" pending", pending);
 }
@@ -128,10 +100,10 @@ fn say_written(name: &[u8], a: Written, buf: &[u8]) {
     let verdict = a.verdict;
     let state = a.state;
     stream::say(name);
-    say_part(b": verdict", verdict.number() as u64);
-    say_part(b" count", a.count as u64);
-    say_part(b" changed", a.changed as u64);
-    say_part(b" need", a.need as u64);
+    words::say_part(b": verdict", verdict.number() as u64);
+    words::say_part(b" count", a.count as u64);
+    words::say_part(b" changed", a.changed as u64);
+    words::say_part(b" need", a.need as u64);
     say_writer(state);
     say_bytes(buf);
     stream::say(b"\n");
@@ -181,71 +153,28 @@ fn room_cases() {
 fn say_fresh_writer(a: FreshWriter) {
     let verdict = a.verdict;
     let state = a.state;
-    say_part(b" writer verdict", verdict.number() as u64);
+    words::say_part(b" writer verdict", verdict.number() as u64);
     say_writer(state);
 }
 
 fn say_fresh_reader(a: FreshAnswer) {
     let verdict = a.verdict;
     let state = a.state;
-    say_part(b" reader verdict", verdict.number() as u64);
+    words::say_part(b" reader verdict", verdict.number() as u64);
     say_reader(state);
 }
 
 fn setup_case(n: usize) {
-    say_part(b"n", n as u64);
+    words::say_part(b"n", n as u64);
     stream::say(b":");
     say_fresh_writer(WriterState::fresh(n, LARGEST, LARGEST, HARDEST));
     say_fresh_reader(ReaderState::fresh(n, LARGEST, LARGEST, HARDEST));
     stream::say(b"\n");
 }
 
-fn say_stick(s: Stick) {
-    say_bit(s.trigger);
-    say_number(s.position as u64);
-}
-
-fn say_absolute(r: Absolute) {
-    say_part(b" absolute", r.flags as u64);
-    say_number(r.x as u64);
-    say_number(r.y as u64);
-}
-
-fn say_relative(r: Relative) {
-    stream::say(b" relative");
-    say_bit(r.left);
-    say_bit(r.right);
-    say_signed(r.dx);
-    say_signed(r.dy);
-}
-
-fn say_both(r: BothSticks) {
-    let stick0 = r.stick0;
-    let stick1 = r.stick1;
-    stream::say(b" sticks");
-    say_stick(stick0);
-    say_stick(stick1);
-}
-
-fn say_one(r: OneStick) {
-    let stick = r.stick;
-    say_part(b" stick", r.which as u64);
-    say_stick(stick);
-}
-
 fn say_report(report: Report) {
-    match report {
-        Report::More => stream::say(b" more"),
-        Report::KeyDown(r) => say_part(b" down", r.key as u64),
-        Report::KeyUp(r) => say_part(b" up", r.key as u64),
-        Report::Absolute(r) => say_absolute(r),
-        Report::Relative(r) => say_relative(r),
-        Report::BothSticks(r) => say_both(r),
-        Report::OneStick(r) => say_one(r),
-        Report::BadByte(_) => stream::say(b" bad byte"),
-        Report::BadReport => stream::say(b" bad report"),
-        Report::Refused => stream::say(b" refused 2"),
-    }
+    stream::say(b" ");
+    words::say_report(report);
     stream::say(b";");
 }
 
@@ -269,7 +198,7 @@ fn pod_case(name: &[u8], bytes: &[u8]) {
     stream::say(b":");
     let s = feed(bytes);
     let held = s.bytes;
-    say_part(b" count", s.count as u64);
+    words::say_part(b" count", s.count as u64);
     say_bytes(&held);
     stream::say(b"\n");
 }

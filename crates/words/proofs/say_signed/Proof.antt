@@ -1,12 +1,12 @@
--- `bench_sheet::say_signed`: a number of 8 bits fits 32. Assumes nothing.
+-- `words::say_signed`: a number of 8 bits fits 32. Assumes nothing.
 use borrow.Author.Needs.{needs}
 use native.Mathlib.Omega.{arith}
 use lib.IntN.{ℤ, pos, negsuc}
 use mir.Syntax.{w8, w32}
 use mir.Val.{SFits}
 use mir.ValLaws.{toZ-ofZ}
-use Rattle.bench_sheet.proofs.say_signed.Statement.{statement}
-use Rattle.bench_sheet.proofs.say_signed.Tie as tie
+use Rattle.words.proofs.say_signed.Statement.{statement}
+use Rattle.words.proofs.say_signed.Tie as tie
 
 wider : (v : ℤ) → SFits w8 v → SFits w32 v
 wider (pos n) f = record { sfits = omega (arith, f .sfits) }
