@@ -1,7 +1,7 @@
 -- What is sent, by the changed-slot number and as the model orders it, and the tally's parts of the event count. Cited by the proofs of `measure` and `accept`. Assumes nothing.
 use mathlib.Core.Path.{_≡_, refl, sym, ap, ap₂, _∙_}
 use mathlib.Core.List.{List, [], _∷_, _++_}
-use Prim.Native.Nat.{ℕ, zero, suc, _+_, _*_, _-_, _^_, _<_, _≤_}
+use Prim.Native.Nat.{ℕ, _+_, _*_, _-_, _^_, _<_, _≤_}
 use native.Mathlib.Omega.{arith}
 use lib.ListN.{length, getD, length-map}
 use Rattle.model.specs.Records.{bytesOf}
@@ -13,14 +13,8 @@ use Rattle.model.proofs.Order.{Opens, mask-others, mask-split}
 use Rattle.panel.specs.declared.Slot.{Slot}
 use Rattle.panel.specs.declared.Setup.{Setup}
 use Rattle.panel.specs.Seen.{slotOf, tableOf, panelSeen, blank}
+use Rattle.panel.proofs.Tables.{slot-at}
 use Rattle.send.specs.Sent.{bytesSent, openedAt, sentBy}
-
--- ---- a slot of the code's table
-
-pub slot-at : (t : List Slot) (s : ℕ) → s < length t → getD (tableOf t) s [] ≡ slotOf (getD t s blank)
-slot-at [] s h = absurd (omega arith)
-slot-at (x ∷ t) zero h = refl
-slot-at (x ∷ t) (suc s) h = slot-at t s (omega arith)
 
 module _ (old new : List Slot) (lo : length old ≡ 16) (ln : length new ≡ 16) (c : ℕ) (h : c < 16) where
   -- ---- the current slot's bit

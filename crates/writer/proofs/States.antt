@@ -1,9 +1,9 @@
 -- When a writer's state is well formed, test by test, and what the other functions know of one that is. Cited by the proofs of `state_ok`, `accept` and `write`. Assumes nothing.
-use mathlib.Core.Path.{_≡_, sym, _∙_, subst}
+use mathlib.Core.Path.{_≡_, _∙_}
 use mathlib.Core.Bool.{Bool, true, _&&_}
 use Prim.Native.Nat.{_<_, _≤_}
 use native.Mathlib.Omega.{arith}
-use lib.Dec.{T, eqb, ltb}
+use lib.Dec.{eqb, ltb}
 use lib.ListN.{length, length-map}
 use borrow.Author.Tests.{eq-eqb}
 use Rattle.model.specs.Panel.{base, setupGood}
@@ -14,11 +14,9 @@ use Rattle.model.proofs.FreshSteady.{setup-slots}
 use Rattle.model.proofs.Calls.{WriterFacts, writer-state}
 use Rattle.panel.specs.declared.Setup.{Setup}
 use Rattle.panel.specs.Seen.{slotOf, tableOf, setupOf, fieldsOf}
+use Rattle.panel.proofs.Setups.{holds}
 use Rattle.writer.specs.declared.WriterState.{WriterState}
 use Rattle.writer.specs.Seen.{seen}
-
-pub holds : {b : Bool} → b ≡ true → T b
-holds e = subst T (sym e) tt
 
 -- ---- the tests
 
@@ -34,11 +32,11 @@ good-by s l a r d b ea er ed eb =
 -- ---- what is known of a well-formed state
 
 pub setup-size : (u : Setup) → setupGood base (setupOf u) ≡ true → u .n ≤ 16
-setup-size u e = setup-slots base (setupOf u) (holds e) .1
+setup-size u e = setup-slots base (setupOf u) (holds _ e) .1
 
 module _ (s : WriterState) (g : writerGood base (seen s) ≡ true) where
   facts : WriterFacts base (seen s)
-  facts = writer-state base (seen s) (holds g)
+  facts = writer-state base (seen s) (holds _ g)
 
   pub good-setup : setupGood base (setupOf (s .setup)) ≡ true
   good-setup = is-true (setupGood base (setupOf (s .setup))) (facts .setup)
