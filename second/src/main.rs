@@ -20,7 +20,7 @@ second cases                           the named cases, as a script
 second records encode < TEXT           a program's input from readable text
 second records decode [frames] < BYTES the text of such an input
 second noise PROGRAM SEED INDEX        one random input for a program
-second show_table | write_frames | show_pod < BYTES
+second show_table | write_frames | show_pod | drive < BYTES
                                        the program of that name";
 
 const CASES: &str = include_str!("../cases.txt");
@@ -71,7 +71,7 @@ fn fail(words: &str) -> ExitCode {
 
 fn run(words: &[&str], out: &mut impl Write) -> Result<(), Failure> {
     match words {
-        ["answer"] => answer_all(io::stdin().lock(), out)?,
+        ["answer"] | ["drive"] => answer_all(io::stdin().lock(), out)?,
         ["script", rounds, seed] => {
             let rounds = number(rounds)?;
             writeln!(out, "# second script {rounds} {seed}")?;

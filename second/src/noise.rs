@@ -10,6 +10,9 @@ use crate::writer::Writer;
 const EACH_LENGTH: u64 = 80;
 const LONGEST: u64 = 5_000;
 
+/// Bytes that a script is made of.
+const SCRIPT_BYTES: &[u8] = b"0123456789-  \n#fnrolawp";
+
 /// The `index`th input for a program; `None` for a name that is none.
 pub fn noise(program: &str, seed: u64, index: u64) -> Option<Vec<u8>> {
     let mut maker = Maker::new(seed ^ index.wrapping_mul(0xD6E8_FEB8_6659_FD93));
@@ -39,9 +42,40 @@ pub fn noise(program: &str, seed: u64, index: u64) -> Option<Vec<u8>> {
             }
             bytes.truncate(length);
         }
+        "drive" => {
+            while bytes.len() < length {
+                match shape {
+                    0 => bytes.push(maker.random.word() as u8),
+                    1 => bytes.push(SCRIPT_BYTES[maker.random.below(SCRIPT_BYTES.len() as u64) as usize]),
+                    _ => bytes.extend(damaged(&mut maker)),
+                }
+            }
+            bytes.truncate(length);
+        }
         _ => return None,
     }
     Some(bytes)
+}
+
+/// A script's lines, now and then with a byte put in, left out or changed.
+fn damaged(maker: &mut Maker) -> Vec<u8> {
+    let mut lines = maker.lines().into_bytes();
+    while maker.random.once_in(2) && !lines.is_empty() {
+        let at = maker.random.below(lines.len() as u64) as usize;
+        let byte = if maker.random.once_in(4) {
+            maker.random.word() as u8
+        } else {
+            SCRIPT_BYTES[maker.random.below(SCRIPT_BYTES.len() as u64) as usize]
+        };
+        match maker.random.below(3) {
+            0 => lines.insert(at, byte),
+            1 => lines[at] = byte,
+            _ => {
+                lines.remove(at);
+            }
+        }
+    }
+    lines
 }
 
 /// More than the low 32 bits of n does not fit a header; the cut number is then as good a header as another.
@@ -84,7 +118,7 @@ mod tests {
 
     #[test]
     fn lengths_and_names() {
-        for program in ["show_table", "write_frames", "show_pod"] {
+        for program in ["show_table", "write_frames", "show_pod", "drive"] {
             let lengths: Vec<u64> =
                 (0..8 * EACH_LENGTH).map(|index| noise(program, 5, index).unwrap().len() as u64).collect();
             for length in 0..EACH_LENGTH {
@@ -92,6 +126,6 @@ mod tests {
             }
             assert!(lengths.iter().any(|length| *length > LONGEST / 2));
         }
-        assert_eq!(noise("drive", 5, 0), None);
+        assert_eq!(noise("bench_sheet", 5, 0), None);
     }
 }

@@ -56,8 +56,8 @@ impl Call {
         if line.len() > LONGEST_LINE {
             return None;
         }
-        let mut words = std::str::from_utf8(line).ok()?.split(' ').filter(|word| !word.is_empty());
-        let letter = *words.next()?.as_bytes().first()?;
+        let mut words = line.split(|byte| *byte == b' ').filter(|word| !word.is_empty());
+        let letter = words.next()?[0];
         let mut numbers = Numbers(words.map(number).collect::<Option<Vec<_>>>()?.into_iter());
         if numbers.0.len() > MOST_NUMBERS {
             return None;
@@ -225,12 +225,12 @@ pub fn words(report: Report) -> String {
     }
 }
 
-fn number(word: &str) -> Option<i128> {
-    let digits = word.strip_prefix('-').unwrap_or(word);
-    if digits.is_empty() || !digits.bytes().all(|b| b.is_ascii_digit()) {
+fn number(word: &[u8]) -> Option<i128> {
+    let digits = word.strip_prefix(b"-").unwrap_or(word);
+    if digits.is_empty() || !digits.iter().all(u8::is_ascii_digit) {
         return None;
     }
-    let value = word.parse::<i128>().ok()?;
+    let value = std::str::from_utf8(word).ok()?.parse::<i128>().ok()?;
     (i128::from(i64::MIN)..=i128::from(u64::MAX)).contains(&value).then_some(value)
 }
 
@@ -441,6 +441,9 @@ mod tests {
     #[test]
     fn only_the_first_letter_counts_and_spaces_may_repeat() {
         assert_eq!(answer("f  1 2  3 4"), answer("fresh 1 2 3 4"));
+        assert_eq!(answer(" fresh 01 2 3 4 "), answer("fresh 1 2 3 4"));
+        assert_eq!(answer("new -0 2 3 4"), answer("new 0 2 3 4"));
+        assert_eq!(answer_line(b"f\xff 1 2 3 4"), answer("fresh 1 2 3 4"));
         assert_eq!(answer("pod 0 0 0 0 0 0 1"), "0 0 0 0 0 0 down 1");
         let full = 12_000 - 134;
         let table = UNUSED.repeat(16);

@@ -42,6 +42,19 @@ pub fn fill(buf: &mut [u8]) -> Filled
     }
 }
 
+// One read: what is there, so that it can be answered before more is waited for. Nothing is there where the input ended or the read failed.
+pub fn some(buf: &mut [u8]) -> Filled
+    ensures { λ r. ⌜ Counts (r .n) (now (buf .exit)) ⌝ }
+{
+    let got = libc::read(STDIN_FILENO, buf);
+    let n = io::count(got, buf);
+    Filled {
+        n,
+        ended: got == 0,
+        failed: got < 0,
+    }
+}
+
 pub fn say(text: &[u8]) {
     io::write_all(STDOUT_FILENO, text);
 }

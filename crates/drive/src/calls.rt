@@ -1,0 +1,150 @@
+// The calls of a script and the kind of each of their numbers: docs/DRIVE.md as tables.
+
+pub enum Call {
+    Fresh,
+    New,
+    Run,
+    One,
+    Load,
+    Ask,
+    Write,
+    Pod,
+    None,
+}
+
+// What a number may be: 8, 16, 32 or 64 bits, 32 bits with a sign, a mode, a buffer's size; or none, where the call takes no more.
+pub enum Kind {
+    Bits8,
+    Bits16,
+    Bits32,
+    Bits64,
+    Signed,
+    Mode,
+    Size,
+    None,
+}
+
+// How many numbers a setup, a reader, a writer and a pod are.
+const SETUP: usize = 4;
+
+pub const READER: usize = 134;
+
+pub const WRITER: usize = 70;
+
+pub const POD: usize = 6;
+
+// The most numbers of a line, and the bytes of the largest buffer.
+pub const NUMBERS: usize = 12000;
+
+pub const BUFFER: usize = 4096;
+
+pub fn call_of(letter: u8) -> Call {
+    match letter {
+        b'f' => Call::Fresh,
+        b'n' => Call::New,
+        b'r' => Call::Run,
+        b'o' => Call::One,
+        b'l' => Call::Load,
+        b'a' => Call::Ask,
+        b'w' => Call::Write,
+        b'p' => Call::Pod,
+        _ => Call::None,
+    }
+}
+
+// Number i of a state: a setup, the current slot, one number of another kind, and tables.
+fn state_kind(i: usize, fifth: Kind) -> Kind {
+    match i {
+        0 => Kind::Bits64,
+        1..=3 => Kind::Bits32,
+        4 => Kind::Bits64,
+        5 => fifth,
+        _ => {
+            if i % 4 == 2 {
+                return Kind::Signed;
+            }
+            Kind::Bits32
+        }
+    }
+}
+
+// Number i of those after a reader's.
+fn after_reader(call: Call, i: usize) -> Kind {
+    match call {
+        Call::Run => Kind::Bits8,
+        Call::One => match i {
+            0..=1 => Kind::Bits16,
+            2 => Kind::Signed,
+            _ => Kind::None,
+        },
+        Call::Load => match i {
+            0 => Kind::Bits64,
+            _ => Kind::Signed,
+        },
+        Call::Ask => match i {
+            0 => Kind::Bits64,
+            _ => Kind::None,
+        },
+        _ => Kind::None,
+    }
+}
+
+fn reader_kind(call: Call, i: usize) -> Kind {
+    if i < READER {
+        return state_kind(i, Kind::Mode);
+    }
+    after_reader(call, i - READER)
+}
+
+fn write_kind(i: usize) -> Kind {
+    if i < WRITER {
+        return state_kind(i, Kind::Bits32);
+    }
+    match i - WRITER {
+        0 => Kind::Bits64,
+        1 => Kind::Size,
+        _ => Kind::Signed,
+    }
+}
+
+fn setup_kind(i: usize) -> Kind {
+    if i < SETUP {
+        return state_kind(i, Kind::None);
+    }
+    Kind::None
+}
+
+fn pod_kind(i: usize) -> Kind {
+    match i {
+        0 => Kind::Bits64,
+        1..=6 => Kind::Bits8,
+        _ => Kind::None,
+    }
+}
+
+// The kind of a call's number i.
+pub fn kind_at(call: Call, i: usize) -> Kind {
+    match call {
+        Call::Fresh => setup_kind(i),
+        Call::New => setup_kind(i),
+        Call::Write => write_kind(i),
+        Call::Pod => pod_kind(i),
+        Call::None => Kind::None,
+        _ => reader_kind(call, i),
+    }
+}
+
+// The fewest numbers of a call; what is no call takes one and has none.
+pub fn fewest(call: Call) -> usize {
+    match call {
+        Call::Fresh => SETUP,
+        Call::New => SETUP,
+        Call::Run => READER,
+        Call::One => READER + 3,
+        Call::Load => READER + 1,
+        Call::Ask => READER + 1,
+        Call::Write => WRITER + 2,
+        Call::Pod => POD + 1,
+        Call::None => 1,
+    }
+}

@@ -1,0 +1,167 @@
+// The parameters of a call, made of a line's numbers. The line was held to the call's kinds before, so nothing is cut off here.
+use panel::RECORDS;
+use panel::Setup;
+use panel::Slot;
+use panel::SlotNumber;
+use panel::TrackingId;
+use pod::PodState;
+use reader::Mode;
+use reader::ReaderState;
+use writer::WriterState;
+ghost use mathlib.Core.Path.{_≡_};
+ghost use Prim.Native.Nat.{_≤_};
+ghost use lib.ListN.{length, take};
+ghost use Rattle.io.specs.Counts.{Counts};
+
+// Number i; 0 past the end.
+pub fn number(ns: &[u64], i: usize) -> u64 {
+    if i < ns.len() {
+        return ns[i];
+    }
+    0
+}
+
+// The lowest 32 bits.
+fn low(v: u64) -> u32 {
+    (v % 0x1_0000_0000) as u32
+}
+
+pub fn natural(ns: &[u64], i: usize) -> u32 {
+    low(number(ns, i))
+}
+
+fn signed_of(v: u32) -> i32 {
+    if v < 0x8000_0000 {
+        return v as i32;
+    }
+    !((0xffff_ffff - v) as i32)
+}
+
+fn signed(ns: &[u64], i: usize) -> i32 {
+    signed_of(natural(ns, i))
+}
+
+pub fn half(ns: &[u64], i: usize) -> u16 {
+    (number(ns, i) % 0x1_0000) as u16
+}
+
+pub fn byte(ns: &[u64], i: usize) -> u8 {
+    (number(ns, i) % 0x100) as u8
+}
+
+pub fn setup_of(ns: &[u64]) -> Setup {
+    Setup {
+        n: number(ns, 0) as usize,
+        x: natural(ns, 1),
+        y: natural(ns, 2),
+        pressure: natural(ns, 3),
+    }
+}
+
+fn slot_of(ns: &[u64], at: usize) -> Slot
+    requires { ⌜ at ≤ 200 ⌝ }
+{
+    Slot {
+        id: TrackingId(signed(ns, at)),
+        x: natural(ns, at + 1),
+        y: natural(ns, at + 2),
+        pressure: natural(ns, at + 3),
+    }
+}
+
+fn table_of(ns: &[u64], from: usize) -> [Slot; RECORDS]
+    requires { ⌜ from ≤ 100 ⌝ }
+{
+    let mut t = panel::zero_table();
+    let mut k: usize = 0;
+    while k < RECORDS {
+        let at = from + 4 * k;
+        t[k] = slot_of(ns, at);
+        k += 1;
+    }
+    t
+}
+
+fn mode_of(v: u64) -> Mode {
+    match v {
+        0 => Mode::Following,
+        1 => Mode::Dropped,
+        _ => Mode::Stale,
+    }
+}
+
+pub fn reader_of(ns: &[u64]) -> ReaderState {
+    ReaderState {
+        setup: setup_of(ns),
+        shown: table_of(ns, 6),
+        pending: table_of(ns, 70),
+        current: SlotNumber(number(ns, 4) as usize),
+        mode: mode_of(number(ns, 5)),
+    }
+}
+
+pub fn writer_of(ns: &[u64]) -> WriterState {
+    WriterState {
+        setup: setup_of(ns),
+        table: table_of(ns, 6),
+        current: SlotNumber(number(ns, 4) as usize),
+        counter: natural(ns, 5),
+    }
+}
+
+pub fn pod_of(ns: &[u64]) -> PodState {
+    PodState {
+        bytes: [
+            byte(ns, 1),
+            byte(ns, 2),
+            byte(ns, 3),
+            byte(ns, 4),
+            byte(ns, 5),
+        ],
+        count: number(ns, 0) as usize,
+    }
+}
+
+// The numbers from `from` on as bytes; how many there are.
+pub fn bytes_of(ns: &[u64], from: usize, out: &mut [u8]) -> usize
+    ensures { λ r. ⌜ Counts r (now (out .exit)) ⌝ }
+{
+    let mut count: usize = 0;
+    let mut i = from;
+    while i < ns.len() {
+        if count >= out.len() {
+            return count;
+        }
+        out[count] = byte(ns, i);
+        count += 1;
+        i += 1;
+    }
+    count
+}
+
+// The numbers from `from` on with their signs; how many there are.
+pub fn frame_of(ns: &[u64], from: usize, out: &mut [i32]) -> usize
+    ensures { λ r. ⌜ (r ≤ length (now (out .exit))) × (r ≡ length (take r (now (out .exit)))) ⌝ }
+{
+    let mut count: usize = 0;
+    let mut i = from;
+    while i < ns.len() {
+        if count >= out.len() {
+            return count;
+        }
+        out[count] = signed(ns, i);
+        count += 1;
+        i += 1;
+    }
+    count
+}
+
+// A count of a buffer's bytes, which number i or a line says: 0 where the buffer has fewer.
+pub fn within(count: usize, buf: &[u8]) -> usize
+    ensures { λ r. ⌜ Counts r (now (buf .entry)) ⌝ }
+{
+    if count > buf.len() {
+        return 0;
+    }
+    count
+}
