@@ -19,14 +19,14 @@ use Rattle.model.proofs.Bytes.{reads-back-bytes}
 use Rattle.model.proofs.Layouts.{few-records, panel-tellable, fields-length}
 use Rattle.model.specs.Numbers.{between}
 use Rattle.model.specs.Panel.{Layout, Setup, Panel, setupGood, panelOf, goodLayout}
-use Rattle.model.specs.Table.{idsDiffer, unusedSlot, goodTable}
+use Rattle.model.specs.Table.{Slot, idOf, live, idsDiffer, unusedSlot, goodTable}
 use Rattle.model.specs.Events.{Event}
 use Rattle.model.specs.Records.{bytesOf, eventsOf}
 use Rattle.model.specs.Frame.{rowsFrom, rowsOf, sized, valuesGood}
 use Rattle.model.specs.Sending.{fewest}
-use Rattle.model.specs.Reader.{following, stale, follow, settledAt, read, run as runOver}
+use Rattle.model.specs.Reader.{Mode, Reader, following, dropped, stale, follow, settledAt, read, run as runOver}
 use Rattle.model.specs.States.{WriterState, writerGood, ReaderState, readerGood, freshWriter, freshReader, zeroWriter, zeroReader}
-use Rattle.model.specs.Calls.{Verdict, accepted, setup, state, frame, value, noRoom, notStale, image, check, isAccepted, freshVerdict, freshWriterCall, freshReaderCall, writerAfter, frameEvents, needOf, mostEvents, roomFor, writeVerdict, Written, notWritten, writeCall, writeBuffer, runVerdict, Ran, notRun, runCall, stepCall, isStale, imageTable, imageGood, loadVerdict, loadCall, unknown, noSuchSlot, askedIn, asked, askCall}
+use Rattle.model.specs.Calls.{Verdict, accepted, setup, state, frame, value, noRoom, notStale, image, check, isAccepted, freshVerdict, freshWriterCall, freshReaderCall, writerAfter, frameEvents, needOf, mostEvents, roomFor, writeVerdict, Written, notWritten, writeCall, writeBuffer, runVerdict, Ran, notRun, runCall, stepCall, isStale, imageTable, imageGood, loadVerdict, loadCall, Asked, contact, empty, unknown, noSuchSlot, refused, askedNumber, askedValues, askedIn, asked, askCall}
 
 -- ---- verdicts
 
@@ -237,6 +237,38 @@ load-steady l s m c g =
 pub load-refused : (l : Layout) (s : ReaderState) (m : List ℤ) (c : ℕ) → T (not (isAccepted (loadVerdict l s m c))) → loadCall l s m c .state ≡ s
 unfolding loadCall
 load-refused l s m c h = refused-is (isAccepted (loadVerdict l s m c)) _ _ h
+
+-- ---- a question's number and values
+
+unrefused-in : (m : Mode) (s : Slot) → askedNumber (askedIn m s) ≡ 0
+unrefused-in following s = by-verdict (λ a. askedNumber a ≡ 0) (live (idOf s)) (contact s) empty (λ _. refl) refl
+unrefused-in dropped s = refl
+unrefused-in stale s = refl
+
+unrefused : (p : Panel) (r : Reader) (k : ℕ) → askedNumber (asked p r k) ≡ 0
+unrefused p r k = by-verdict (λ a. askedNumber a ≡ 0) (ltb k (p .slots)) (askedIn (r .mode) (getD (r .shown) k [])) noSuchSlot (λ _. unrefused-in (r .mode) (getD (r .shown) k [])) refl
+
+number-by : (b : Bool) (a : Asked) → askedNumber a ≡ 0 → askedNumber (cond b a (refused state)) ≡ cond b 0 2
+number-by true a e = e
+number-by false a e = refl
+
+-- A question's number is 2 exactly when the state is not well formed, else 0.
+pub ask-refusal : (l : Layout) (s : ReaderState) (k : ℕ) → askedNumber (askCall l s k) ≡ cond (readerGood l s) 0 2
+unfolding askCall
+ask-refusal l s k = number-by (readerGood l s) (asked (panelOf l (s .setup)) (s .reader) k) (unrefused (panelOf l (s .setup)) (s .reader) k)
+
+values-in : (b : Bool) (s : Slot) → askedValues (cond b (contact s) empty) ≡ cond b s []
+values-in true s = refl
+values-in false s = refl
+
+-- While following, a slot of the panel is answered with its shown numbers if it is in use, and with none otherwise.
+pub ask-shown : (l : Layout) (s : ReaderState) (k : ℕ) → T (readerGood l s) → s .reader .mode ≡ following → k < s .setup .slots
+    → askedValues (askCall l s k) ≡ (let o = getD (s .reader .shown) k [] in cond (live (idOf o)) o [])
+unfolding askCall
+ask-shown l s k g m b =
+    let o = getD (s .reader .shown) k [] in
+    ap askedValues (accepted-is (readerGood l s) _ _ g ∙ accepted-is (ltb k (s .setup .slots)) _ noSuchSlot (lt→ltb k (s .setup .slots) b) ∙ ap (λ q. askedIn q o) m)
+    ∙ values-in (live (idOf o)) o
 
 -- ---- lost, until a load
 
