@@ -4,7 +4,6 @@ use panel::Setup;
 use panel::Slot;
 use panel::TrackingId;
 use pod::PodState;
-use pod::Report;
 use reader::FreshAnswer;
 use reader::Mode;
 use reader::ReaderState;
@@ -43,25 +42,9 @@ fn say_setup(s: Setup) {
     words::say_number(s.pressure as u64);
 }
 
-fn say_slot(s: Slot) {
-    let id = s.id;
-    stream::say(b" ");
-    stream::say_signed(id.0);
-    stream::say(b",");
-    stream::say_number(s.x as u64);
-    stream::say(b",");
-    stream::say_number(s.y as u64);
-    stream::say(b",");
-    stream::say_number(s.pressure as u64);
-}
-
 fn say_table(name: &[u8], table: [Slot; RECORDS]) {
     stream::say(name);
-    let mut k: usize = 0;
-    while k < RECORDS {
-        say_slot(table[k]);
-        k += 1;
-    }
+    words::say_slots(table, RECORDS, false);
 }
 
 fn say_mode(m: Mode) {
@@ -172,31 +155,10 @@ fn setup_case(n: usize) {
     stream::say(b"\n");
 }
 
-fn say_report(report: Report) {
-    stream::say(b" ");
-    words::say_report(report);
-    stream::say(b";");
-}
-
-// Says the answer of each byte and gives back the state after the last.
-fn feed(bytes: &[u8]) -> PodState {
-    let mut s = PodState::fresh();
-    let mut i = 0;
-    while i < bytes.len() {
-        let answer = pod::step(s, bytes[i]);
-        let report = answer.report;
-        say_report(report);
-        let next = answer.state;
-        s = next;
-        i += 1;
-    }
-    s
-}
-
 fn pod_case(name: &[u8], bytes: &[u8]) {
     stream::say(name);
     stream::say(b":");
-    let s = feed(bytes);
+    let s = words::feed(PodState::fresh(), bytes, false);
     let held = s.bytes;
     words::say_part(b" count", s.count as u64);
     say_bytes(&held);

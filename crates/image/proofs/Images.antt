@@ -1,11 +1,11 @@
 -- An image's rows one by one, and the table as it is filled. Cited by the proofs here. Assumes nothing.
 use mathlib.Core.Path.{_≡_, refl, sym, ap, ap₂, _∙_}
 use mathlib.Core.Bool.{true, false, _&&_}
-use mathlib.Core.List.{List, [], _∷_, _++_, append-assoc}
+use mathlib.Core.List.{List, [], _∷_, _++_, append-assoc, map-append}
 use Prim.Native.Nat.{ℕ, zero, suc, _+_, _-_, _*_, _≤_, _<_}
 use native.Mathlib.Omega.{arith}
-use lib.IntN.{ℤ, pos}
-use lib.ListN.{length, getD, set, replicate, length-append, length-map, length-replicate}
+use lib.IntN.{ℤ}
+use lib.ListN.{length, set, replicate, length-append, length-map, length-replicate}
 use lib.Seq.{set-at}
 use borrow.Author.Tests.{eq-eqb, ne-eqb}
 use Rattle.model.specs.Panel.{Field}
@@ -13,32 +13,24 @@ use Rattle.model.specs.Table as T
 use Rattle.model.specs.Frame.{numbersFrom, rowsFrom}
 use Rattle.model.specs.Calls.{imageTable, imageGood}
 use Rattle.model.proofs.Calls.{length-rowsFrom}
-use Rattle.model.proofs.Tables.{good-pad, map-append, map-replicate}
+use Rattle.model.proofs.Rows.{rows-next, rows-none}
+use Rattle.model.proofs.Tables.{good-pad, map-replicate}
 use Rattle.panel.specs.Seen.{tableOf, slotFrom, tableFrom, fieldsOf, panelSeen, unused, unusedAll}
 use Rattle.panel.specs.declared.Slot.{Slot}
 use Rattle.panel.specs.declared.Setup.{Setup}
 
 -- ---- the rows
 
-pub four : (l : List ℤ) (i : ℕ) → numbersFrom 4 l (4 * i) ≡ getD l (4 * i) (pos 0) ∷ getD l (4 * i + 1) (pos 0) ∷ getD l (4 * i + 2) (pos 0) ∷ getD l (4 * i + 3) (pos 0) ∷ []
-four l i =
-    let a : 4 * i + 1 + 1 ≡ 4 * i + 2 = omega arith in
-    let b : 4 * i + 2 + 1 ≡ 4 * i + 3 = omega arith in
-    rw (a, b)
-
 pub good-next : (fs : List Field) (l : List ℤ) (n i : ℕ) → i < n
     → T.goodRecords fs (n - i) (rowsFrom 4 (n - i) l (4 * i)) ≡ (T.goodSlot fs (numbersFrom 4 l (4 * i)) && T.goodRecords fs (n - (i + 1)) (rowsFrom 4 (n - (i + 1)) l (4 * (i + 1))))
-unfolding rowsFrom
 good-next fs l n i h =
     let m : n - i ≡ suc (n - (i + 1)) = omega arith in
-    let e : 4 * (i + 1) ≡ 4 * i + 4 = omega arith in
-    rw (m, e)
+    ap (T.goodRecords fs (n - i)) (rows-next 4 n i l h) ∙ ap (λ k. T.goodRecords fs k (numbersFrom 4 l (4 * i) ∷ rowsFrom 4 (n - (i + 1)) l (4 * (i + 1)))) m
 
 pub good-end : (fs : List Field) (l : List ℤ) (n i : ℕ) → n ≤ i → T.goodRecords fs (n - i) (rowsFrom 4 (n - i) l (4 * i)) ≡ true
-unfolding rowsFrom
 good-end fs l n i h =
     let m : n - i ≡ 0 = omega arith in
-    rw m
+    rw (m, rows-none)
 
 -- ---- the table as it is filled
 

@@ -1,28 +1,39 @@
--- Demands 2 and 3 of the code: from the promises of `writer::write` and `reader::run` alone, in bytes. `Wrote` and `Ran` are those contracts' own equations. Assumes nothing.
-use mathlib.Core.Path.{_≡_, refl, sym, ap, ap₂, _∙_}
-use mathlib.Core.Bool.{cond}
+-- Demands 2 and 3 of the code: from the promises of `writer::write`, `reader::run` and `reader::ask` alone, in bytes. `Wrote` and `Ran` are those contracts' own equations. Cited by docs/PROMISES.md. Assumes nothing.
+use mathlib.Core.Path.{_≡_, sym, ap, ap₂, _∙_, subst}
+use mathlib.Core.Bool.{true, cond}
 use mathlib.Core.List.{List}
-use Prim.Native.Nat.{ℕ, _*_, _/_, _≤_}
+use Prim.Native.Nat.{ℕ, _*_, _/_, _≤_, _<_}
+use native.Mathlib.Omega.{arith}
 use lib.Dec.{T, eqb}
 use lib.IntN.{ℤ}
 use lib.ListN.{length, take, drop}
 use Rattle.model.specs.Panel.{base}
 use Rattle.model.specs.Sending.{fewest}
-use Rattle.model.specs.Reader.{following, nothing, oneShown}
-use Rattle.model.specs.Calls as C
-use Rattle.model.specs.Calls.{isAccepted, writeVerdict, writeCall, writeBuffer, runCall}
+use Rattle.model.specs.Reader.{nothing, oneShown}
+use Rattle.model.specs.States.{readerGood}
+use Rattle.model.specs.Calls.{isAccepted, writeVerdict, writeCall, writeBuffer, runCall, askCall}
 use Rattle.model.proofs.Instances.{base-good}
+use Rattle.model.proofs.Lost.{Lost}
+use Rattle.model.proofs.Calls.{unknown-until-load}
 use Rattle.model.proofs.Link.{run-of-written, count-is-fewest, no-fewer-records, call-verdict}
 use Rattle.panel.specs.declared.Verdict.the-variants.{Accepted}
-use Rattle.panel.specs.Seen.{tableOf, verdictOf, verdictFrom}
+use Rattle.panel.specs.declared.Slot.{Slot}
+use Rattle.panel.specs.Seen.{tableOf, verdictOf}
+use Rattle.panel.proofs.Back.{verdict-seen}
+use Rattle.panel.proofs.Setups.{holds}
 use Rattle.writer.specs.declared.WriterState.{WriterState}
 use Rattle.writer.specs.declared.Written.{Written}
 use Rattle.writer.specs.Seen as W
+use Rattle.writer.proofs.Demands.{answer-seen}
 use Rattle.runs.specs.declared.Mode.the-variants.{Following}
 use Rattle.runs.specs.declared.ReaderState.{ReaderState}
 use Rattle.runs.specs.declared.RunAnswer.{RunAnswer}
 use Rattle.runs.specs.Seen as R
 use Rattle.runs.specs.Seen.{ranFrom, countsFrom}
+use Rattle.reader.specs.declared.SlotAnswer.{SlotAnswer}
+use Rattle.reader.specs.declared.SlotAnswer.the-variants.{Unknown}
+use Rattle.reader.specs.Seen.{askedFrom}
+use Rattle.reader.proofs.Promises.{run-state}
 
 -- What `write` promises of its answer and of the buffer afterwards.
 abbrev pub Wrote : WriterState → List ℤ → ℕ → List ℕ → Written → List ℕ → Type 0
@@ -35,18 +46,6 @@ Ran s bs q = q ≡ ranFrom (runCall base (R.seen s) bs)
 -- A reader of the same setup, table and current slot, following and with nothing pending.
 abbrev pub pupilOf : WriterState → ReaderState
 pupilOf s = record { setup = s .setup; shown = s .table; pending = s .table; current = s .current; mode = Following }
-
--- A verdict is known by its struct.
-verdict-seen : (v : C.Verdict) → verdictOf (verdictFrom v) ≡ v
-verdict-seen C.accepted = refl
-verdict-seen C.setup = refl
-verdict-seen C.state = refl
-verdict-seen C.frame = refl
-verdict-seen C.value = refl
-verdict-seen C.noRoom = refl
-verdict-seen C.ragged = refl
-verdict-seen C.notStale = refl
-verdict-seen C.image = refl
 
 module _ (s : WriterState) (f : List ℤ) (at : ℕ) (buf : List ℕ) (r : Written) (after : List ℕ) (w : Wrote s f at buf r after) (h : r .verdict ≡ Accepted) where
   took : T (isAccepted (writeVerdict base (W.seen s) f at (length buf)))
@@ -66,12 +65,28 @@ module _ (s : WriterState) (f : List ℤ) (at : ℕ) (buf : List ℕ) (r : Writt
       ∙ ap ranFrom (run-of-written base (W.seen s) f at buf base-good took)
       ∙ sym (ap (λ (x : Written). record { verdict = Accepted; state = pupilOf (x .state); counts = countsFrom (cond (eqb (x .count) 0) nothing oneShown) }) (w .0))
 
+  table-is : tableOf (r .state .table) ≡ writeCall base (W.seen s) f at (length buf) .state .writer .table
+  table-is = ap (λ (x : Written). tableOf (x .state .table)) (w .0) ∙ ap (λ x. x .writer .table) (answer-seen s f buf at)
+
   -- Demand 3: the count is `fewest` between the tables before and after.
-  pub fewest-events : r .count ≡ fewest (s .current .0) (tableOf (s .table)) (writeCall base (W.seen s) f at (length buf) .state .writer .table)
-  unfolding took counted
-  fewest-events = counted ∙ count-is-fewest base (W.seen s) f at buf base-good took
+  pub fewest-events : r .count ≡ fewest (s .current .0) (tableOf (s .table)) (tableOf (r .state .table))
+  unfolding took counted table-is
+  fewest-events = counted ∙ count-is-fewest base (W.seen s) f at buf base-good took ∙ ap (fewest (s .current .0) (tableOf (s .table))) (sym table-is)
 
 -- Demand 3: bytes of any kind and length that leave that reader following hold as many whole records at least as `fewest` says for the table that it then shows.
-pub none-shorter : (s : WriterState) (bs : List ℕ) → runCall base (R.seen (pupilOf s)) bs .state .reader .mode ≡ following
-    → fewest (s .current .0) (tableOf (s .table)) (runCall base (R.seen (pupilOf s)) bs .state .reader .shown) ≤ length bs / 8
-none-shorter s bs m = no-fewer-records base (W.seen s) bs m
+pub none-shorter : (s : WriterState) (bs : List ℕ) (q : RunAnswer) → Ran (pupilOf s) bs q → q .state .mode ≡ Following → fewest (s .current .0) (tableOf (s .table)) (tableOf (q .state .shown)) ≤ length bs / 8
+none-shorter s bs q e m =
+    let x = run-state (pupilOf s) bs q e in
+    subst (λ z. fewest (s .current .0) (tableOf (s .table)) (z .reader .shown) ≤ length bs / 8) (sym x) (no-fewer-records base (W.seen s) bs (sym (ap (λ z. z .reader .mode) x) ∙ ap R.modeOf m))
+
+-- So no bytes with fewer whole records than an accepted frame's count lead that reader to the frame's table and leave it following.
+pub none-fewer : (s : WriterState) (f : List ℤ) (at : ℕ) (buf : List ℕ) (r : Written) (after : List ℕ) → Wrote s f at buf r after → r .verdict ≡ Accepted
+    → (bs : List ℕ) (q : RunAnswer) → Ran (pupilOf s) bs q → q .state .mode ≡ Following → q .state .shown ≡ r .state .table → r .count ≤ length bs / 8
+none-fewer s f at buf r after w h bs q e m t =
+    let n : r .count ≡ fewest (s .current .0) (tableOf (s .table)) (tableOf (q .state .shown)) = fewest-events s f at buf r after w h ∙ ap (λ (l : List Slot). fewest (s .current .0) (tableOf (s .table)) (tableOf l)) (sym t) in
+    omega (arith, n, none-shorter s bs q e m)
+
+-- Demand 2: a well-formed reader that lost track, given any bytes, answers "unknown" for every slot of its panel, until a load.
+pub unknown : (s : ReaderState) (bs : List ℕ) (q : RunAnswer) (k : ℕ) (r : SlotAnswer) → readerGood base (R.seen s) ≡ true → Lost (R.modeOf (s .mode)) → k < s .setup .n
+    → Ran s bs q → r ≡ askedFrom (askCall base (R.seen (q .state)) k) → r ≡ Unknown
+unknown s bs q k r g l b e a = a ∙ ap (λ x. askedFrom (askCall base x k)) (run-state s bs q e) ∙ ap askedFrom (unknown-until-load base (R.seen s) bs k (holds _ g) l b)

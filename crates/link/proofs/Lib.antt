@@ -1,2 +1,2 @@
--- The demands, of the contracts of `write` and `run`.
+-- The demands, of the contracts of `write`, `run` and `ask`.
 pub mod Demands

@@ -1,6 +1,6 @@
 -- Laws on tests, and on the equality of whole numbers. Cited by nearly every proof here and in the code's crates. Assumes nothing.
 use mathlib.Core.Path.{_≡_, refl, ap}
-use mathlib.Core.Bool.{Bool, true, false, not, _&&_}
+use mathlib.Core.Bool.{Bool, true, false, not, _&&_, false≢true}
 use Prim.Native.Nat.{ℕ}
 use lib.Dec.{T, eqb→eq, eqb-refl, not-T}
 use lib.IntN.{ℤ, pos, negsuc}
@@ -31,6 +31,15 @@ both-left false b t = t
 pub both-right : (a b : Bool) → T (a && b) → T b
 both-right true b t = t
 both-right false b t = absurd t
+
+-- The same of a test's value.
+pub and-left : (a b : Bool) → (a && b) ≡ true → a ≡ true
+and-left true b e = refl
+and-left false b e = e
+
+pub and-right : (a b : Bool) → (a && b) ≡ true → b ≡ true
+and-right true b e = e
+and-right false b e = absurd (false≢true e)
 
 pub not-both : (a b : Bool) → T (not b) → T (not (a && b))
 not-both true b h = h

@@ -1,9 +1,10 @@
 -- Event records there and back: what was encoded is decoded, alone and in the middle of a buffer; demand 2 over bytes. Assumes nothing.
 use mathlib.Core.Path.{_≡_, refl, sym, ap, ap₂, _∙_}
 use mathlib.Core.Bool.{Bool, true, false, _&&_, cond}
-use mathlib.Core.List.{List, [], _∷_, _++_, map, append-assoc}
+use mathlib.Core.List.{List, [], _∷_, _++_, map, append-assoc, append-nil}
 use Prim.Native.Nat.{ℕ, zero, suc, _+_, _-_, _*_, _/_, _%_, _≤_, _<_}
 use native.Mathlib.Omega.{arith}
+use native.Mathlib.Nat.{add-zero}
 use lib.Dec.{T, ltb, leb, leb→le, le→leb, ltb→lt}
 use lib.IntN.{ℤ, pos, negsuc}
 use lib.Signed.{leZ}
@@ -71,11 +72,8 @@ record-back e rest h = rw (two (e .type) (h .type), two (e .code) (h .code), fou
 record-behind : (before s : List ℕ) → eventAt (before ++ s) (length before) ≡ eventAt s 0
 record-behind before s =
     let n = length before in
-    let z : getD (before ++ s) n 0 ≡ getD s 0 0 = ap (λ k. getD (before ++ s) k 0) (plus-zero n) ∙ getD-append-add before s 0 0 in
+    let z : getD (before ++ s) n 0 ≡ getD s 0 0 = ap (λ k. getD (before ++ s) k 0) (sym (add-zero n)) ∙ getD-append-add before s 0 0 in
     rw (z, getD-append-add before s 1 0, getD-append-add before s 2 0, getD-append-add before s 3 0, getD-append-add before s 4 0, getD-append-add before s 5 0, getD-append-add before s 6 0, getD-append-add before s 7 0)
-  where
-    plus-zero : (n : ℕ) → n ≡ n + 0
-    plus-zero n = omega arith
 
 -- ---- many records
 
@@ -88,6 +86,12 @@ pub bytes-length : (es : List Event) → length (bytesOf es) ≡ 8 * length es
 unfolding bytesOf recordBytes
 bytes-length [] = refl
 bytes-length (e ∷ es) = omega (arith, bytes-length es)
+
+-- So many events are read as were asked for.
+pub events-length : (n : ℕ) (s : List ℕ) (at : ℕ) → length (eventsFrom n s at) ≡ n
+unfolding eventsFrom
+events-length zero s at = refl
+events-length (suc n) s at = ap suc (events-length n s (at + 8))
 
 -- Events written behind other bytes are read there, whatever follows them.
 pub events-behind : (es : List Event) (before rest : List ℕ) → AllCarried es → eventsFrom (length es) (before ++ (bytesOf es ++ rest)) (length before) ≡ es
@@ -105,11 +109,7 @@ events-behind (e ∷ es) before rest h =
 pub decoded : (es : List Event) → AllCarried es → eventsOf (bytesOf es) ≡ es
 decoded es h =
     let n : length (bytesOf es) / 8 ≡ length es = omega (arith, bytes-length es) in
-    ap (λ k. eventsFrom k (bytesOf es) 0) n ∙ ap (λ s. eventsFrom (length es) s 0) (sym (append-none (bytesOf es))) ∙ events-behind es [] [] h
-  where
-    append-none : (l : List ℕ) → l ++ [] ≡ l
-    append-none [] = refl
-    append-none (x ∷ l) = ap {B = List ℕ} (λ m. x ∷ m) (append-none l)
+    ap (λ k. eventsFrom k (bytesOf es) 0) n ∙ ap (λ s. eventsFrom (length es) s 0) (sym (append-nil (bytesOf es))) ∙ events-behind es [] [] h
 
 -- The part of a buffer that bytes were laid on is these bytes.
 pub laid-part : (at : ℕ) (bs buf : List ℕ) → at ≤ length buf → take (length bs) (drop at (lay at bs buf)) ≡ bs

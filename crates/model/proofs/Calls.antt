@@ -19,14 +19,14 @@ use Rattle.model.proofs.Bytes.{reads-back-bytes}
 use Rattle.model.proofs.Layouts.{few-records, panel-tellable, fields-length}
 use Rattle.model.specs.Numbers.{between}
 use Rattle.model.specs.Panel.{Layout, Setup, Panel, setupGood, panelOf, goodLayout}
-use Rattle.model.specs.Table.{idsDiffer, unusedSlot, goodTable}
+use Rattle.model.specs.Table.{Slot, idOf, live, idsDiffer, unusedSlot, goodTable}
 use Rattle.model.specs.Events.{Event}
 use Rattle.model.specs.Records.{bytesOf, eventsOf}
 use Rattle.model.specs.Frame.{rowsFrom, rowsOf, sized, valuesGood}
 use Rattle.model.specs.Sending.{fewest}
-use Rattle.model.specs.Reader.{following, stale, follow, settledAt, read, run as runOver}
+use Rattle.model.specs.Reader.{Mode, Reader, following, dropped, stale, follow, settledAt, read, run as runOver}
 use Rattle.model.specs.States.{WriterState, writerGood, ReaderState, readerGood, freshWriter, freshReader, zeroWriter, zeroReader}
-use Rattle.model.specs.Calls.{Verdict, accepted, setup, state, frame, value, noRoom, notStale, image, check, isAccepted, freshVerdict, freshWriterCall, freshReaderCall, writerAfter, frameEvents, needOf, mostEvents, roomFor, writeVerdict, Written, notWritten, writeCall, writeBuffer, runVerdict, Ran, notRun, runCall, stepCall, isStale, imageTable, imageGood, loadVerdict, loadCall, unknown, noSuchSlot, askedIn, asked, askCall}
+use Rattle.model.specs.Calls.{Verdict, accepted, setup, state, frame, value, noRoom, notStale, image, check, isAccepted, freshVerdict, freshWriterCall, freshReaderCall, writerAfter, frameEvents, needOf, mostEvents, roomFor, writeVerdict, Written, notWritten, taken, writeCall, writeBuffer, runVerdict, Ran, ran, notRun, runCall, stepCall, isStale, imageTable, imageGood, loadVerdict, loadCall, Asked, contact, empty, unknown, noSuchSlot, refused, askedNumber, askedValues, askedIn, asked, askCall}
 
 -- ---- verdicts
 
@@ -40,7 +40,7 @@ passed false why more n h = absurd (clash (isAccepted why) n h)
     clash false n h = h
 
 -- A branch by a verdict keeps what both branches have.
-by-verdict : {A : Type 0} (P : A → Type 0) (b : Bool) (x y : A) → (T b → P x) → P y → P (cond b x y)
+pub by-verdict : {A : Type 0} (P : A → Type 0) (b : Bool) (x y : A) → (T b → P x) → P y → P (cond b x y)
 by-verdict P true x y f g = f tt
 by-verdict P false x y f g = g
 
@@ -131,14 +131,17 @@ after-steady l s f g w v =
     let p = panelOf l (s .setup) in
     rows-steady (s .setup .slots) (l .records) _ (s .writer) (rowsOf p f) (few-records l g) (omega (arith, length-rowsFrom (length (p .fields)) (p .slots) f 0)) v (w .writer)
 
+-- So an accepted frame leaves a well-formed state.
+pub frame-steady : (l : Layout) (s : WriterState) (f : List ℤ) (at size : ℕ) → T (goodLayout l) → T (isAccepted (writeVerdict l s f at size)) → T (writerGood l (taken (panelOf l (s .setup)) s f .state))
+frame-steady l s f at size g h =
+    let a = write-accepted l s f at size h in
+    let facts = writer-state l s (a .good) in
+    state-writer l _ (record { setup = facts .setup; writer = after-steady l s f g facts (a .values) })
+
 -- Writing a frame keeps a writer's state well formed, whether it is accepted or refused.
 pub write-steady : (l : Layout) (s : WriterState) (f : List ℤ) (at size : ℕ) → T (goodLayout l) → T (writerGood l s) → T (writerGood l (writeCall l s f at size .state))
 unfolding writeCall
-write-steady l s f at size g w =
-    by-verdict (λ (a : Written). T (writerGood l (a .state))) (isAccepted (writeVerdict l s f at size)) _ _
-    (λ h. let facts = writer-state l s w in
-    state-writer l _ (record { setup = facts .setup; writer = after-steady l s f g facts (write-accepted l s f at size h .values) }))
-    w
+write-steady l s f at size g w = by-verdict (λ (a : Written). T (writerGood l (a .state))) (isAccepted (writeVerdict l s f at size)) _ _ (frame-steady l s f at size g) w
 
 -- A refused frame gives back the state as it came in, zero counts and changed slots, no need but with NO ROOM, and touches no byte.
 pub write-refused : (l : Layout) (s : WriterState) (f : List ℤ) (at : ℕ) (buf : List ℕ) → T (not (isAccepted (writeVerdict l s f at (length buf))))
@@ -177,23 +180,22 @@ frame-limit l s f g w v =
 
 -- ---- reading
 
+-- Reading any events keeps a reader's state well formed.
+pub events-steady : (l : Layout) (s : ReaderState) (es : List Event) → T (readerGood l s) → T (readerGood l (ran (s .setup) (runOver (panelOf l (s .setup)) (s .reader) es) .state))
+unfolding runOver
+events-steady l s es g =
+    let facts = reader-state l s g in
+    state-reader l _ (record { setup = facts .setup; reader = read-steady (panelOf l (s .setup)) es (s .reader) (facts .reader) })
+
 -- A run keeps a reader's state well formed, whether it is accepted or refused.
 pub run-steady : (l : Layout) (s : ReaderState) (bs : List ℕ) → T (readerGood l s) → T (readerGood l (runCall l s bs .state))
-unfolding runCall runOver
-run-steady l s bs g =
-    let facts = reader-state l s g in
-    by-verdict (λ (a : Ran). T (readerGood l (a .state))) (isAccepted (runVerdict l s bs)) _ _
-    (λ h. state-reader l _ (record { setup = facts .setup; reader = read-steady (panelOf l (s .setup)) (eventsOf bs) (s .reader) (facts .reader) }))
-    g
+unfolding runCall
+run-steady l s bs g = by-verdict (λ (a : Ran). T (readerGood l (a .state))) (isAccepted (runVerdict l s bs)) _ _ (λ h. events-steady l s (eventsOf bs) g) g
 
 -- So does one event by itself.
 pub step-steady : (l : Layout) (s : ReaderState) (e : Event) → T (readerGood l s) → T (readerGood l (stepCall l s e .state))
-unfolding stepCall runOver
-step-steady l s e g =
-    let facts = reader-state l s g in
-    by-verdict (λ (a : Ran). T (readerGood l (a .state))) (isAccepted (check (readerGood l s) state accepted)) _ _
-    (λ h. state-reader l _ (record { setup = facts .setup; reader = read-steady (panelOf l (s .setup)) (e ∷ []) (s .reader) (facts .reader) }))
-    g
+unfolding stepCall
+step-steady l s e g = by-verdict (λ (a : Ran). T (readerGood l (a .state))) (isAccepted (check (readerGood l s) state accepted)) _ _ (λ h. events-steady l s (e ∷ []) g) g
 
 -- A refused run gives back the state as it came in, and zeros.
 pub run-refused : (l : Layout) (s : ReaderState) (bs : List ℕ) → T (not (isAccepted (runVerdict l s bs))) → runCall l s bs ≡ notRun (runVerdict l s bs) s
@@ -237,6 +239,38 @@ load-steady l s m c g =
 pub load-refused : (l : Layout) (s : ReaderState) (m : List ℤ) (c : ℕ) → T (not (isAccepted (loadVerdict l s m c))) → loadCall l s m c .state ≡ s
 unfolding loadCall
 load-refused l s m c h = refused-is (isAccepted (loadVerdict l s m c)) _ _ h
+
+-- ---- a question's number and values
+
+unrefused-in : (m : Mode) (s : Slot) → askedNumber (askedIn m s) ≡ 0
+unrefused-in following s = by-verdict (λ a. askedNumber a ≡ 0) (live (idOf s)) (contact s) empty (λ _. refl) refl
+unrefused-in dropped s = refl
+unrefused-in stale s = refl
+
+unrefused : (p : Panel) (r : Reader) (k : ℕ) → askedNumber (asked p r k) ≡ 0
+unrefused p r k = by-verdict (λ a. askedNumber a ≡ 0) (ltb k (p .slots)) (askedIn (r .mode) (getD (r .shown) k [])) noSuchSlot (λ _. unrefused-in (r .mode) (getD (r .shown) k [])) refl
+
+number-by : (b : Bool) (a : Asked) → askedNumber a ≡ 0 → askedNumber (cond b a (refused state)) ≡ cond b 0 2
+number-by true a e = e
+number-by false a e = refl
+
+-- A question's number is 2 exactly when the state is not well formed, else 0.
+pub ask-refusal : (l : Layout) (s : ReaderState) (k : ℕ) → askedNumber (askCall l s k) ≡ cond (readerGood l s) 0 2
+unfolding askCall
+ask-refusal l s k = number-by (readerGood l s) (asked (panelOf l (s .setup)) (s .reader) k) (unrefused (panelOf l (s .setup)) (s .reader) k)
+
+values-in : (b : Bool) (s : Slot) → askedValues (cond b (contact s) empty) ≡ cond b s []
+values-in true s = refl
+values-in false s = refl
+
+-- While following, a slot of the panel is answered with its shown numbers if it is in use, and with none otherwise.
+pub ask-shown : (l : Layout) (s : ReaderState) (k : ℕ) → T (readerGood l s) → s .reader .mode ≡ following → k < s .setup .slots
+    → askedValues (askCall l s k) ≡ (let o = getD (s .reader .shown) k [] in cond (live (idOf o)) o [])
+unfolding askCall
+ask-shown l s k g m b =
+    let o = getD (s .reader .shown) k [] in
+    ap askedValues (accepted-is (readerGood l s) _ _ g ∙ accepted-is (ltb k (s .setup .slots)) _ noSuchSlot (lt→ltb k (s .setup .slots) b) ∙ ap (λ q. askedIn q o) m)
+    ∙ values-in (live (idOf o)) o
 
 -- ---- lost, until a load
 

@@ -2,7 +2,7 @@
 use mathlib.Core.Path.{_≡_, refl, sym, ap, ap₂, _∙_, subst}
 use mathlib.Core.Bool.{true, false, cond}
 use mathlib.Core.List.{List, map}
-use Prim.Native.Nat.{ℕ, zero, suc, _+_, _*_, _/_, _%_, _≤_}
+use Prim.Native.Nat.{ℕ, _*_, _/_, _%_, _≤_}
 use native.Mathlib.Omega.{arith}
 use lib.Dec.{T, eqb, leb, leb→le}
 use lib.IntN.{ℤ}
@@ -13,7 +13,7 @@ use Rattle.model.proofs.Tables.{good-records, alike}
 use Rattle.model.proofs.Codes.{tells, all-back, sending-good}
 use Rattle.model.proofs.Count.{changedNumbers-self}
 use Rattle.model.proofs.Least.{least}
-use Rattle.model.proofs.Bytes.{bytes-length, decoded, laid-part, frame-carried}
+use Rattle.model.proofs.Bytes.{bytes-length, events-length, decoded, laid-part, frame-carried}
 use Rattle.model.proofs.Layouts.{panel-tellable}
 use Rattle.model.proofs.Shows.{sending-tallies}
 use Rattle.model.proofs.Calls.{writer-state, state-reader, after-steady, write-accepted, frame-reads-back, frame-count, accepted-is}
@@ -21,7 +21,7 @@ use Rattle.model.proofs.Answers.{run-whole}
 use Rattle.model.specs.Panel.{Layout, panelOf, goodLayout, fieldCodes}
 use Rattle.model.specs.Table.{Table}
 use Rattle.model.specs.Events.{classify}
-use Rattle.model.specs.Records.{bytesOf, eventsFrom, eventsOf, lay}
+use Rattle.model.specs.Records.{bytesOf, eventsOf, lay}
 use Rattle.model.specs.Frame.{valuesGood}
 use Rattle.model.specs.Sending.{eventOf, sending, fewest}
 use Rattle.model.specs.Reader.{following, follow, nothing, oneShown, tallies, run as runOver}
@@ -115,11 +115,6 @@ module _ (l : Layout) (s : WriterState) (f : List ℤ) (at : ℕ) (buf : List �
   -- Demand 3: the count is `fewest` between the old table and the new one.
   pub count-is-fewest : writeCall l s f at (length buf) .count ≡ fewest (s .writer .current) (s .writer .table) (writeCall l s f at (length buf) .state .writer .table)
   count-is-fewest = ap (λ (a : Written). a .count) answer-is ∙ frame-count l s f ∙ sym (ap (λ (a : Written). fewest (s .writer .current) (s .writer .table) (a .state .writer .table)) answer-is)
-
-events-length : (n : ℕ) (s : List ℕ) (at : ℕ) → length (eventsFrom n s at) ≡ n
-unfolding eventsFrom
-events-length zero s at = refl
-events-length (suc n) s at = ap suc (events-length n s (at + 8))
 
 fewest-self : (c : ℕ) (t : Table) → fewest c t t ≡ 0
 fewest-self c t = rw (changedNumbers-self t)

@@ -4,7 +4,7 @@ use mathlib.Core.Bool.{true, false, _&&_}
 use mathlib.Core.List.{List, [], _∷_, _++_}
 use Prim.Native.Nat.{ℕ, zero, suc, _+_, _-_, _*_, _/_, _%_, _^_, _≤_, _<_, min}
 use native.Mathlib.Omega.{arith}
-use native.Mathlib.Nat.{pow-suc, mul-assoc}
+use native.Mathlib.Nat.{add-zero, zero-add, pow-suc, mul-assoc}
 use lib.Bits.{bitAnd, and-step, and-self}
 use lib.Count.{ones, ones-step, trailingZeros, under}
 use lib.ListN.{length, getD}
@@ -27,10 +27,7 @@ down-even : (m : ℕ) → 0 < m → m % 2 ≡ 0 → bitAnd m (m - 1) ≡ bitAnd 
 down-even m p e =
     let h : (m - 1) / 2 ≡ m / 2 - 1 = omega arith in
     let z : (m - 1) % 2 ≡ 1 = omega arith in
-    and-step m (m - 1) ∙ ap₂ (λ x y. bitAnd (m / 2) x * 2 + y) h (ap₂ min e z) ∙ plus-zero (bitAnd (m / 2) (m / 2 - 1) * 2)
-  where
-    plus-zero : (x : ℕ) → x + 0 ≡ x
-    plus-zero x = omega arith
+    and-step m (m - 1) ∙ ap₂ (λ x y. bitAnd (m / 2) x * 2 + y) h (ap₂ min e z) ∙ add-zero (bitAnd (m / 2) (m / 2 - 1) * 2)
 
 twice-mod : (x : ℕ) → x * 2 % 2 ≡ 0
 twice-mod x = omega arith
@@ -163,10 +160,7 @@ others-ones zero (o ∷ old) (v ∷ new) =
     let m = changedMask old new in
     let low : 2 * m % 2 ≡ 0 = omega arith in
     let up : 2 * m / 2 ≡ m = omega arith in
-    ones-step (2 * m) ∙ ap₂ (λ x y. x + ones y) low up ∙ ap (λ x. 0 + x) (mask-ones old new) ∙ zero-plus (changedSlots old new)
-  where
-    zero-plus : (x : ℕ) → 0 + x ≡ x
-    zero-plus x = omega arith
+    ones-step (2 * m) ∙ ap₂ (λ x y. x + ones y) low up ∙ ap (λ x. 0 + x) (mask-ones old new) ∙ zero-add (changedSlots old new)
 others-ones (suc c) (o ∷ old) (v ∷ new) =
     let b = oneUnless (sameSlot o v) in
     let m = othersMask c old new in

@@ -9,19 +9,8 @@ use lib.Dec.{leb, ltb, eqb, lit≤}
 use lib.ListN.{length, getD, take, drop, set, replicate, length-append, length-drop, length-replicate, take-append-drop}
 use lib.Seq.{length-take-le, take-append-seam, drop-append-seam, drop-cons, set-split}
 use borrow.Author.Tests.{ltb-true, leb-true, eqb-true, lt-ltb, le-ltb, le-leb, eq-eqb}
+use Rattle.model.proofs.Bools.{and-left, and-right}
 use Rattle.model.specs.Pod.{Kind, keyDownReport, keyUpReport, absoluteReport, relativeReport, bothSticksReport, oneStickReport, badByteReport, kindOf, lengthOf, places, State, heldIn, unusedIn, holding, fresh, unfinished, zeros, wellFormed, Report, more, absolute, bothSticks, oneStick, badByte, badReport, reportRefusal, ends, word, goodFlags, goodStick, trigger, position, byteAt, judged, Fed, firstOf, keeping, ending, fedTo, fed, Stepped, accepted, refusing, step, told, after, run}
-
--- ---- tests
-
--- What holds of both holds of the first.
-and-left : (a b : Bool) → (a && b) ≡ true → a ≡ true
-and-left true b e = refl
-and-left false b e = e
-
--- What holds of both holds of the second.
-and-right : (a b : Bool) → (a && b) ≡ true → b ≡ true
-and-right true b e = e
-and-right false b e = absurd (false≢true e)
 
 -- ---- places and the bytes held
 

@@ -1,12 +1,12 @@
 -- What a reader counts of a frame: one table shown, or nothing where nothing is sent. Cited by Link. Assumes nothing.
 use mathlib.Core.Path.{_≡_, refl, sym, ap, ap₂, _∙_}
 use mathlib.Core.Bool.{true, false, cond}
-use mathlib.Core.List.{List, [], _∷_, _++_, map}
+use mathlib.Core.List.{List, [], _∷_, _++_, map, map-append}
 use Prim.Native.Nat.{ℕ, zero, suc}
 use lib.Dec.{T, eqb, eqb·suc-zero}
 use lib.ListN.{length, getD, set}
 use Rattle.model.proofs.Bools.{is-true}
-use Rattle.model.proofs.Tables.{Alike, map-append}
+use Rattle.model.proofs.Tables.{Alike}
 use Rattle.model.proofs.Counts.{plus-assoc, none-plus}
 use Rattle.model.proofs.Follow.{asks, heeds, heeds-body}
 use Rattle.model.specs.Numbers.{eqZ}

@@ -147,11 +147,7 @@ good-pad fs zero m (s ∷ t) e = absurd (omega arith)
 good-pad fs (suc n) m [] e = absurd (omega arith)
 good-pad fs (suc n) m (s ∷ t) e = ap (λ b. goodSlot fs s && b) (good-pad fs n m t (omega arith))
 
--- ---- lists that are mapped
-
-pub map-append : {A B : Type 0} (f : A → B) (a b : List A) → map f (a ++ b) ≡ map f a ++ map f b
-map-append f [] b = refl
-map-append f (x ∷ a) b = ap (λ l. f x ∷ l) (map-append f a b)
+-- ---- a list that is mapped
 
 pub map-replicate : {A B : Type 0} (f : A → B) (n : ℕ) (x : A) → map f (replicate n x) ≡ replicate n (f x)
 map-replicate f zero x = refl

@@ -1,4 +1,4 @@
--- What is seen of a value and held again is the value, whatever it is: so a refusal hands a state back unchanged. And what is held of good records is seen again. Cited by the reader and the writer. Assumes nothing.
+-- What is seen of a value and held again is the value, whatever it is: so a refusal hands a state back unchanged. And what is held of a verdict or of good records is seen again. Cited by the reader, the writer and link. Assumes nothing.
 use mathlib.Core.Path.{_≡_, refl, sym, ap, ap₂, _∙_}
 use mathlib.Core.List.{List, [], _∷_}
 use Prim.Native.Nat.{ℕ, zero, suc}
@@ -7,6 +7,7 @@ use lib.IntN.{ℤ, pos, negsuc}
 use Rattle.model.specs.Numbers.{betweenZ}
 use Rattle.model.specs.Panel.{idField}
 use Rattle.model.specs.Table as M
+use Rattle.model.specs.Calls as C
 use Rattle.model.specs.Table.{fits, goodSlot, unusedSlot, eqSlot, goodPlace, goodRecords}
 use Rattle.model.proofs.Bools.{both-left, both-right}
 use Rattle.model.proofs.Tables.{eqSlot→eq}
@@ -35,6 +36,17 @@ verdict-back W.NotStale = refl
 verdict-back W.Image = refl
 
 -- ---- held and seen again
+
+pub verdict-seen : (v : C.Verdict) → verdictOf (verdictFrom v) ≡ v
+verdict-seen C.accepted = refl
+verdict-seen C.setup = refl
+verdict-seen C.state = refl
+verdict-seen C.frame = refl
+verdict-seen C.value = refl
+verdict-seen C.noRoom = refl
+verdict-seen C.ragged = refl
+verdict-seen C.notStale = refl
+verdict-seen C.image = refl
 
 own-number : (top : ℕ) (v : ℤ) → T (betweenZ (pos 0) (pos top) v) → pos (natural v) ≡ v
 own-number top (pos n) t = refl

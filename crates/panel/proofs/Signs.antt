@@ -1,15 +1,20 @@
 -- Signed numbers: their bits, their signs, and tests with `true` at the end. Cited by the proofs here, and by those of image, frame and the writer's crates. Assumes nothing.
-use mathlib.Core.Path.{_≡_, refl}
+use mathlib.Core.Path.{_≡_, refl, sym}
 use mathlib.Core.Bool.{Bool, true, false, _&&_}
-use Prim.Native.Nat.{ℕ, suc, _-_, _^_}
+use mathlib.Core.List.{List, [], _∷_}
+use Prim.Native.Nat.{ℕ, suc, _+_, _-_, _^_}
 use native.Mathlib.Omega.{arith}
 use lib.Dec.{eqb, leb}
 use lib.IntN.{ℤ, pos, negsuc}
+use lib.ListN.{getD}
 use lib.Signed.{leZ, ltZ}
 use borrow.Author.Tests.{eq-eqb, ne-eqb, eqb-true, eqb-false, lt-leb, le-leb, ltb-true, ltb-false}
 use mir.Syntax.{w32}
-use mir.Val.{SFits, ofZ}
+use mir.Val.{SFits, ofZ, toZ}
+use mir.ValLaws.{toZ-ofZ}
 use Rattle.model.specs.Numbers.{eqZ, betweenZ}
+use Rattle.model.specs.Frame.{numbersFrom}
+use Rattle.model.proofs.Rows.{row-of-four}
 use Rattle.panel.specs.Seen.{natural}
 
 -- ---- equal bits are equal numbers
@@ -26,6 +31,14 @@ eq-bits (pos m) (pos n) f g = refl
 eq-bits (pos m) (negsuc n) f g = ne-eqb m (2 ^ 32 - suc n) (λ e. omega arith)
 eq-bits (negsuc m) (pos n) f g = ne-eqb (2 ^ 32 - suc m) n (λ e. omega arith)
 eq-bits (negsuc m) (negsuc n) f g = eqb-iff (2 ^ 32 - suc m) (2 ^ 32 - suc n) m n (λ e. omega arith) (λ e. omega arith)
+
+-- ---- a row of a lent run
+
+-- Four numbers, each read through its bits.
+pub row-read : (f : List ℤ) (at : ℕ) → SFits w32 (getD f at (pos 0)) → SFits w32 (getD f (at + 1) (pos 0)) → SFits w32 (getD f (at + 2) (pos 0)) → SFits w32 (getD f (at + 3) (pos 0))
+    → toZ w32 (ofZ w32 (getD f at (pos 0))) ∷ toZ w32 (ofZ w32 (getD f (at + 1) (pos 0))) ∷ toZ w32 (ofZ w32 (getD f (at + 2) (pos 0))) ∷ toZ w32 (ofZ w32 (getD f (at + 3) (pos 0))) ∷ [] ≡ numbersFrom 4 f at
+row-read f at a b c d =
+    rw (toZ-ofZ w32 (getD f at (pos 0)) a, toZ-ofZ w32 (getD f (at + 1) (pos 0)) b, toZ-ofZ w32 (getD f (at + 2) (pos 0)) c, toZ-ofZ w32 (getD f (at + 3) (pos 0)) d) (sym (row-of-four f at))
 
 -- ---- by the test `v < -1`
 

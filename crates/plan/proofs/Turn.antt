@@ -13,6 +13,7 @@ use Rattle.model.specs.Numbers.{eqZ, betweenZ}
 use Rattle.model.specs.Table.{Table, numbersOf, goodSlot, live}
 use Rattle.model.specs.Records.{bitsOf}
 use Rattle.model.specs.Frame.{numbersFrom, rowsFrom, kindOf, goodRow, goodRows, Fate, none, goesOn, begins, fate, freeId, slotAfter, takenAfter, counterAfter, tableFrom, counterFrom}
+use Rattle.model.proofs.Bools.{and-left, and-right}
 use Rattle.model.proofs.Tries.{Same, table-same, counter-same}
 use Rattle.panel.specs.declared.Slot as S
 use Rattle.panel.specs.declared.Setup.{Setup}
@@ -25,14 +26,6 @@ own-bits : (v : ℤ) (b : Bool) → (leZ (pos 0) v && b) ≡ true → pos (bitsO
 unfolding bitsOf
 own-bits (pos n) b e = refl
 own-bits (negsuc n) b e = let z : _≡_ {A = ℕ} 0 1 = cc in absurd (omega arith)
-
-pub and-left : (a b : Bool) → (a && b) ≡ true → a ≡ true
-and-left true b e = refl
-and-left false b e = e
-
-pub and-right : (a b : Bool) → (a && b) ≡ true → b ≡ true
-and-right true b e = e
-and-right false b e = let z : _≡_ {A = ℕ} 0 1 = cc in absurd (omega arith)
 
 abbrev three : ℤ → ℤ → ℤ → List ℤ
 three x y p = x ∷ y ∷ p ∷ []

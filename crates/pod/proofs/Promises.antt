@@ -4,10 +4,13 @@ use mathlib.Core.Path.{_≡_, refl, ap, _∙_}
 use mathlib.Core.Bool.{true, cond}
 use mathlib.Core.List.{List, _∷_, _++_}
 use Prim.Native.Nat.{ℕ}
+use Rattle.model.specs.Unique.{Gives}
 use Rattle.model.specs.Pod as M
 use Rattle.model.proofs.Pod.{step-formed, refusal-exact, run-cut}
 use Rattle.pod.specs.declared.PodState.{PodState}
+use Rattle.pod.specs.declared.PodAnswer.{PodAnswer}
 use Rattle.pod.specs.Seen.{seen, held, heldReport, reportSeen, refusalOf, numbersOf, stepAnswer, stateAfter}
+use Rattle.pod.proofs.step.Reads as step
 
 -- What is seen of a state is held again.
 pub held-seen : (s : PodState) → held (seen s) ≡ s
@@ -34,13 +37,19 @@ report-seen M.refused = refl
 pub step-steady : (s : PodState) (byte : ℕ) → M.wellFormed (seen s) ≡ true → M.wellFormed (seen (stepAnswer s byte .state)) ≡ true
 step-steady s byte e = step-formed (seen s) byte e
 
--- The refusal number of a step is 2 exactly when the state is not well formed, else 0.
-pub step-refusal : (s : PodState) (byte : ℕ) → refusalOf (stepAnswer s byte .report) ≡ cond (M.wellFormed (seen s)) 0 2
-step-refusal s byte = ap M.reportRefusal (report-seen (M.step (seen s) byte .report)) ∙ refusal-exact (seen s) byte
+-- ---- of the contract of `step` itself, in document 01's numbers
 
--- The numbers of a step are the model's.
-pub step-numbers : (s : PodState) (byte : ℕ) → numbersOf (stepAnswer s byte .report) ≡ M.reportNumbers (M.step (seen s) byte .report)
-step-numbers s byte = ap M.reportNumbers (report-seen (M.step (seen s) byte .report))
+-- The answer is the model's.
+pub step-report : Gives step.Learnt (λ κs r. reportSeen (r .report)) (λ κs a. M.step (seen (a .0)) (a .1 .0) .report)
+step-report κs a r s e = ap (λ (x : PodAnswer). reportSeen (x .report)) e ∙ report-seen (M.step (seen (a .0)) (a .1 .0) .report)
+
+-- Its refusal number is 2 exactly when the state is not well formed, else 0.
+pub step-refusal : Gives step.Learnt (λ κs r. refusalOf (r .report)) (λ κs a. cond (M.wellFormed (seen (a .0))) 0 2)
+step-refusal κs a r s e = ap M.reportRefusal (step-report κs a r s e) ∙ refusal-exact (seen (a .0)) (a .1 .0)
+
+-- Its numbers are the model's.
+pub step-numbers : Gives step.Learnt (λ κs r. numbersOf (r .report)) (λ κs a. M.reportNumbers (M.step (seen (a .0)) (a .1 .0) .report))
+step-numbers κs a r s e = ap M.reportNumbers (step-report κs a r s e)
 
 -- ---- a run
 

@@ -1,10 +1,10 @@
--- The answers of a load and of a question as the model's, and the two plain ones of a run and a load. The public contracts cite it. Assumes nothing.
+-- The answers of a load and of a question as the model's, and back, and the two plain ones of a run and a load. Cited by the public contracts and by proofs/Promises. Assumes nothing.
 use mathlib.Core.List.{List}
 use Prim.Native.Nat.{ℕ}
 use lib.IntN.{ℤ}
 use Rattle.model.specs.Reader as R
 use Rattle.model.specs.Calls as C
-use Rattle.panel.specs.Seen.{slotFrom, setupOf, panelSeen, verdictFrom}
+use Rattle.panel.specs.Seen.{slotOf, slotFrom, setupOf, panelSeen, verdictOf, verdictFrom}
 use Rattle.panel.specs.declared.Setup.{Setup}
 use Rattle.panel.specs.declared.Verdict.{Verdict}
 use Rattle.panel.specs.declared.Verdict.the-variants as W
@@ -26,6 +26,22 @@ askedFrom C.empty = Empty
 askedFrom C.unknown = Unknown
 askedFrom C.noSuchSlot = NoSuchSlot
 askedFrom (C.refused v) = Refused (verdictFrom v)
+
+-- And back.
+abbrev pub answerSeen : SlotAnswer → C.Asked
+answerSeen (Contact s) = C.contact (slotOf s)
+answerSeen Empty = C.empty
+answerSeen Unknown = C.unknown
+answerSeen NoSuchSlot = C.noSuchSlot
+answerSeen (Refused v) = C.refused (verdictOf v)
+
+-- Document 01's number of a refused question; 0 for any other answer.
+abbrev pub refusalOf : SlotAnswer → ℕ
+refusalOf r = C.askedNumber (answerSeen r)
+
+-- The numbers that come with an answer: a contact's four.
+abbrev pub valuesOf : SlotAnswer → List ℤ
+valuesOf r = C.askedValues (answerSeen r)
 
 -- A refused run: the state as it came in, and zeros.
 abbrev pub refusedRun : Verdict → ReaderState → RunAnswer

@@ -2,7 +2,7 @@
 use mathlib.Core.Path.{_≡_, refl, sym, ap, ap₂, _∙_}
 use mathlib.Core.Bool.{Bool, true, false, cond}
 use mathlib.Core.List.{List, [], _∷_, map}
-use Prim.Native.Nat.{ℕ, zero, suc, _+_, _-_, _*_, _≤_, _<_}
+use Prim.Native.Nat.{ℕ, suc, _+_, _-_, _*_, _≤_, _<_}
 use native.Mathlib.Omega.{arith}
 use lib.Dec.{eqb, ltb}
 use lib.IntN.{ℤ, pos, negsuc}
@@ -41,14 +41,9 @@ onward-end p r a s n k l =
     let m : n - k ≡ 0 = omega arith in
     rw m (ap (endingAt r) (plus-none a))
 
-pub events-length : (n : ℕ) (s : List ℕ) (at : ℕ) → length (eventsFrom n s at) ≡ n
-unfolding eventsFrom
-events-length zero s at = refl
-events-length (suc n) s at = ap suc (events-length n s (at + 8))
-
 -- ---- a reader that lost track
 
-mute-skip : (m : Mode) → onLost m skip ≡ m
+pub mute-skip : (m : Mode) → onLost m skip ≡ m
 mute-skip following = refl
 mute-skip dropped = refl
 mute-skip stale = refl

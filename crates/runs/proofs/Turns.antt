@@ -1,5 +1,5 @@
 -- A turn of the reader's loop, as the model sees it: one law for each arm, over the loop's locals. Cited by the proofs of `follow`, `lost` and `kept`. Assumes nothing.
-use mathlib.Core.Path.{_≡_, refl, sym, ap, _∙_, subst}
+use mathlib.Core.Path.{_≡_, sym, ap, _∙_, subst}
 use mathlib.Core.Bool.{true, false}
 use mathlib.Core.List.{List, [], _∷_}
 use Prim.Native.Nat.{ℕ, zero, suc, _+_, _-_, _*_, _≤_, _<_}
@@ -13,6 +13,7 @@ use Rattle.model.specs.Events.{classify}
 use Rattle.model.specs.Records.{eventAt, eventsFrom}
 use Rattle.model.specs.Reader as R
 use Rattle.model.specs.Reader.{settledAt}
+use Rattle.model.proofs.Bytes.{events-length}
 use Rattle.model.proofs.Lost.{Lost}
 use Rattle.model.proofs.ReaderSteady.{Fit, fit}
 use Rattle.panel.specs.Seen.{slotOf, tableOf, fieldsOf, panelSeen, blank}
@@ -21,23 +22,14 @@ use Rattle.panel.specs.declared.Setup.{Setup}
 use Rattle.panel.specs.declared.Verdict.the-variants as W
 use Rattle.panel.proofs.Back.{table-back}
 use Rattle.runs.specs.declared.Mode.{Mode}
-use Rattle.runs.specs.declared.Mode.the-variants.{Following, Dropped, Stale}
+use Rattle.runs.specs.declared.Mode.the-variants.{Following}
 use Rattle.runs.specs.declared.ReaderState.{ReaderState}
 use Rattle.runs.specs.declared.Counts.{Counts}
 use Rattle.runs.specs.declared.RunAnswer.{RunAnswer}
-use Rattle.runs.specs.Seen.{modeOf, modeFrom, readerOf, seen, held}
+use Rattle.runs.specs.Seen.{modeOf, readerOf}
 use Rattle.runs.specs.Runs.{onward, lastMode, counted, endingAt, answered}
-use Rattle.runs.proofs.Runs.{onward-next, onward-end, lost-onward, events-length}
-
--- ---- what is seen is held again, whatever it is
-
-pub mode-back : (m : Mode) → modeFrom (modeOf m) ≡ m
-mode-back Following = refl
-mode-back Dropped = refl
-mode-back Stale = refl
-
-pub state-back : (s : ReaderState) → held (seen s) ≡ s
-state-back s = rw (table-back (s .shown), table-back (s .pending), mode-back (s .mode))
+use Rattle.runs.proofs.Runs.{onward-next, onward-end, lost-onward}
+use Rattle.runs.proofs.Back.{mode-back}
 
 -- ---- a run's answers, of the parts
 

@@ -4,17 +4,13 @@ use mathlib.Core.Bool.{Bool, true, false, cond}
 use lib.Dec.{eqb}
 use borrow.Author.Tests.{eq-eqb, ne-eqb}
 use Rattle.model.specs.Events.{Event, skip, report, loss}
-use Rattle.model.specs.Reader.{Mode, following, dropped, stale}
+use Rattle.model.specs.Reader.{Mode, dropped, stale}
 use Rattle.runs.specs.Runs.{heard, onLost}
-
-stays : (m : Mode) → onLost m skip ≡ m
-stays following = refl
-stays dropped = refl
-stays stale = refl
+use Rattle.runs.proofs.Runs.{mute-skip}
 
 module _ (e : Event) where
   pub other-type : (m : Mode) → (e .type ≡ 0 → ⊥) → onLost m (heard e) ≡ m
-  other-type m d = rw (ne-eqb (e .type) 0 d) (stays m)
+  other-type m d = rw (ne-eqb (e .type) 0 d) (mute-skip m)
 
   pub to-stale : e .type ≡ 0 → e .code ≡ 0 → onLost dropped (heard e) ≡ stale
   to-stale t c = rw (eq-eqb (e .type) 0 t, eq-eqb (e .code) 0 c)

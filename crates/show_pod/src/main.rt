@@ -1,55 +1,13 @@
 // Shows pod reports: standard input is pod bytes of any length, standard output a line for each answer but "more", and at the end
 // of input `more` where a report is unfinished. A failed read is not the end of input: it is said on standard error.
-ghost use mathlib.Core.Path.{_≡_};
-ghost use Rattle.pod.specs.Seen.{stateAfter};
 use libc::STDIN_FILENO;
 use pod::PodState;
-use pod::Report;
 
 // The state after a read, and whether reading goes on or has failed.
 struct Turn {
     state: PodState,
     again: bool,
     failed: bool,
-}
-
-fn is_more(report: Report) -> bool {
-    match report {
-        Report::More => true,
-        Report::KeyDown(_) => false,
-        Report::KeyUp(_) => false,
-        Report::Absolute(_) => false,
-        Report::Relative(_) => false,
-        Report::BothSticks(_) => false,
-        Report::OneStick(_) => false,
-        Report::BadByte(_) => false,
-        Report::BadReport => false,
-        Report::Refused => false,
-    }
-}
-
-// A line for each answer but "more".
-fn say_report(report: Report) {
-    if !is_more(report) {
-        words::say_report(report);
-        stream::say(b"\n");
-    }
-}
-
-fn feed(state: PodState, bytes: &[u8]) -> PodState
-    ensures { λ r. ⌜ r ≡ stateAfter state (now (bytes .entry)) ⌝ }
-{
-    let mut s = state;
-    let mut i = 0;
-    while i < bytes.len() {
-        let answer = pod::step(s, bytes[i]);
-        let report = answer.report;
-        say_report(report);
-        let next = answer.state;
-        s = next;
-        i += 1;
-    }
-    s
 }
 
 fn read_some(state: PodState) -> Turn {
@@ -70,7 +28,7 @@ fn read_some(state: PodState) -> Turn {
         };
     }
     let n = io::count(got, &buf);
-    let next = feed(state, &buf[..n]);
+    let next = words::feed(state, &buf[..n], true);
     Turn {
         state: next,
         again: true,

@@ -19,30 +19,6 @@ fn is_following(m: Mode) -> bool {
     }
 }
 
-fn say_slot(k: usize, s: panel::Slot) {
-    let id = s.id;
-    stream::say_number(k as u64);
-    stream::say(b" ");
-    stream::say_signed(id.0);
-    stream::say(b" ");
-    stream::say_number(s.x as u64);
-    stream::say(b" ");
-    stream::say_number(s.y as u64);
-    stream::say(b" ");
-    stream::say_number(s.pressure as u64);
-    stream::say(b"\n");
-}
-
-fn say_table(shown: [panel::Slot; panel::RECORDS], n: usize) {
-    let mut k: usize = 0;
-    while k < panel::RECORDS {
-        if k < n {
-            say_slot(k, shown[k]);
-        }
-        k += 1;
-    }
-}
-
 fn say_state(s: ReaderState) {
     let m = s.mode;
     let current = s.current;
@@ -52,7 +28,7 @@ fn say_state(s: ReaderState) {
     if is_following(m) {
         let shown = s.shown;
         let setup = s.setup;
-        say_table(shown, setup.n);
+        words::say_slots(shown, setup.n, true);
     }
 }
 

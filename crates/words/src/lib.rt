@@ -1,7 +1,12 @@
-// Pod reports and numbers in words, on standard output: what show_pod and bench_sheet have in common. It promises nothing about a stream but that saying ends.
+// Pod reports, tables and numbers in words, on standard output: what show_pod, show_table and bench_sheet have in common. It promises nothing about a stream but that saying ends.
+ghost use mathlib.Core.Path.{_≡_};
+ghost use Rattle.pod.specs.Seen.{stateAfter};
+use panel::RECORDS;
+use panel::Slot;
 use pod::Absolute;
 use pod::BothSticks;
 use pod::OneStick;
+use pod::PodState;
 use pod::Relative;
 use pod::Report;
 use pod::Stick;
@@ -77,5 +82,85 @@ pub fn say_report(report: Report) {
         Report::BadByte(_) => stream::say(b"bad byte"),
         Report::BadReport => stream::say(b"bad report"),
         Report::Refused => stream::say(b"refused 2"),
+    }
+}
+
+fn is_more(report: Report) -> bool {
+    match report {
+        Report::More => true,
+        Report::KeyDown(_) => false,
+        Report::KeyUp(_) => false,
+        Report::Absolute(_) => false,
+        Report::Relative(_) => false,
+        Report::BothSticks(_) => false,
+        Report::OneStick(_) => false,
+        Report::BadByte(_) => false,
+        Report::BadReport => false,
+        Report::Refused => false,
+    }
+}
+
+// An answer on a line of its own, unless it is "more"; or all answers on one line.
+fn say_answer(report: Report, lines: bool) {
+    if !lines {
+        stream::say(b" ");
+        say_report(report);
+        stream::say(b";");
+        return;
+    }
+    if !is_more(report) {
+        say_report(report);
+        stream::say(b"\n");
+    }
+}
+
+// Says the answer of each byte and gives back the state after the last.
+pub fn feed(state: PodState, bytes: &[u8], lines: bool) -> PodState
+    ensures { λ r. ⌜ r ≡ stateAfter state (now (bytes .entry)) ⌝ }
+{
+    let mut s = state;
+    let mut i = 0;
+    while i < bytes.len() {
+        let answer = pod::step(s, bytes[i]);
+        let report = answer.report;
+        say_answer(report, lines);
+        let next = answer.state;
+        s = next;
+        i += 1;
+    }
+    s
+}
+
+fn say_four(s: Slot, between: &[u8]) {
+    let id = s.id;
+    stream::say_signed(id.0);
+    stream::say(between);
+    stream::say_number(s.x as u64);
+    stream::say(between);
+    stream::say_number(s.y as u64);
+    stream::say(between);
+    stream::say_number(s.pressure as u64);
+}
+
+fn say_slot(k: usize, s: Slot, lines: bool) {
+    if !lines {
+        stream::say(b" ");
+        say_four(s, b",");
+        return;
+    }
+    stream::say_number(k as u64);
+    stream::say(b" ");
+    say_four(s, b" ");
+    stream::say(b"\n");
+}
+
+// The first n slots of a table: each on a line of its own after its number, or all on one line.
+pub fn say_slots(table: [Slot; RECORDS], n: usize, lines: bool) {
+    let mut k: usize = 0;
+    while k < RECORDS {
+        if k < n {
+            say_slot(k, table[k], lines);
+        }
+        k += 1;
     }
 }

@@ -1,6 +1,6 @@
 -- What `fresh` and `write` answer, in the demands' words: refusals hand back, states stay well formed, live ids differ. Read back and fewest events stand in the crate link. Assumes nothing.
 use mathlib.Core.Path.{_≡_, sym, ap, _∙_, subst}
-use mathlib.Core.Bool.{Bool, true, false, not}
+use mathlib.Core.Bool.{not}
 use mathlib.Core.List.{List}
 use Prim.Native.Nat.{ℕ}
 use lib.Dec.{T}
@@ -11,17 +11,17 @@ use Rattle.model.specs.Table.{idsDiffer}
 use Rattle.model.specs.States as M
 use Rattle.model.specs.States.{writerGood, freshWriter}
 use Rattle.model.specs.Calls as C
-use Rattle.model.specs.Calls.{isAccepted, freshVerdict, freshWriterCall, needOf, notWritten, writerAfter, writeVerdict, writeCall, writeBuffer}
+use Rattle.model.specs.Calls.{isAccepted, freshVerdict, freshWriterCall, needOf, notWritten, writeVerdict, writeCall, writeBuffer}
 use Rattle.model.proofs.Tables.{good-records}
-use Rattle.model.proofs.Calls.{accepted-is, writer-state, write-steady, write-refused, fresh-writer-good}
+use Rattle.model.proofs.Calls.{by-verdict, accepted-is, writer-state, frame-steady, write-steady, write-refused, fresh-writer-good}
 use Rattle.model.proofs.Instances.{base-good}
-use Rattle.model.proofs.Link.{answer-is}
 use Rattle.panel.specs.declared.Setup.{Setup}
 use Rattle.panel.specs.Seen.{setupOf, panelSeen, verdictFrom}
 use Rattle.panel.proofs.Back.{table-seen}
 use Rattle.writer.specs.declared.WriterState.{WriterState}
 use Rattle.writer.specs.declared.Written.{Written}
 use Rattle.writer.specs.Seen.{seen, held, freshFrom, writtenFrom, notWrittenBy}
+use Rattle.writer.proofs.Back.{state-back}
 use Rattle.writer.proofs.Outcome.{refusal-is}
 
 -- ---- states
@@ -47,10 +47,6 @@ fresh-is u h = accepted-is (isAccepted (freshVerdict base (setupOf u))) _ _ h
 pub fresh-steady : (u : Setup) → T (isAccepted (freshWriterCall base (setupOf u) .verdict)) → T (writerGood base (seen (freshFrom (freshWriterCall base (setupOf u)) .state)))
 fresh-steady u h = good-through u (freshWriter (panelSeen u)) _ (fresh-is u h) (fresh-writer-good base (setupOf u) h)
 
-by-test : {A : Type 0} (b : Bool) → (T b → A) → (T (not b) → A) → A
-by-test true x y = x tt
-by-test false x y = y tt
-
 module _ (s : WriterState) (f : List ℤ) (buf : List ℕ) (at : ℕ) where
   abbrev p : Panel
   p = panelSeen (s .setup)
@@ -64,13 +60,17 @@ module _ (s : WriterState) (f : List ℤ) (buf : List ℕ) (at : ℕ) where
   abbrev verdict : C.Verdict
   verdict = writeVerdict base (seen s) f at (length buf)
 
+  -- An accepted frame leaves a good state and a refused one the state as it came in, so that what is held of either is seen again.
+  pub answer-seen : seen (writtenFrom answer .state) ≡ answer .state
+  unfolding writeCall
+  answer-seen =
+      by-verdict (λ (a : C.Written). seen (held (a .state)) ≡ a .state) (isAccepted verdict) _ _
+      (λ h. good-seen (s .setup) _ (frame-steady base (seen s) f at (length buf) base-good h))
+      (ap seen (state-back s))
+
   -- Accepted or refused, the state of an answer to a well-formed state is well formed.
   pub steady : T (writerGood base (seen s)) → T (writerGood base (seen (writtenFrom answer .state)))
-  steady g =
-      let w = write-steady base (seen s) f at (length buf) base-good g in
-      by-test (isAccepted verdict)
-      (λ h. good-through (s .setup) (writerAfter p (seen s .writer) f) _ (ap (λ (a : C.Written). a .state) (answer-is base (seen s) f at buf base-good h)) w)
-      (λ h. good-through (s .setup) (seen s .writer) _ (ap (λ (a : C.Written). a .state) (write-refused base (seen s) f at buf h .0)) w)
+  steady g = subst (λ x. T (writerGood base x)) (sym answer-seen) (write-steady base (seen s) f at (length buf) base-good g)
 
   -- So its live ids all differ.
   pub ids-apart : T (writerGood base (seen s)) → T (idsDiffer (seen (writtenFrom answer .state) .writer .table))

@@ -10,11 +10,9 @@ use Rattle.model.specs.Panel.{base, setupGood}
 use Rattle.model.specs.Table.{idsDiffer, goodRecords}
 use Rattle.model.specs.States.{writerGood}
 use Rattle.model.proofs.Bools.{is-true}
-use Rattle.model.proofs.FreshSteady.{setup-slots}
 use Rattle.model.proofs.Calls.{WriterFacts, writer-state}
-use Rattle.panel.specs.declared.Setup.{Setup}
 use Rattle.panel.specs.Seen.{slotOf, tableOf, setupOf, fieldsOf}
-use Rattle.panel.proofs.Setups.{holds}
+use Rattle.panel.proofs.Setups.{holds, small}
 use Rattle.writer.specs.declared.WriterState.{WriterState}
 use Rattle.writer.specs.Seen.{seen}
 
@@ -31,9 +29,6 @@ good-by s l a r d b ea er ed eb =
 
 -- ---- what is known of a well-formed state
 
-pub setup-size : (u : Setup) → setupGood base (setupOf u) ≡ true → u .n ≤ 16
-setup-size u e = setup-slots base (setupOf u) (holds _ e) .1
-
 module _ (s : WriterState) (g : writerGood base (seen s) ≡ true) where
   facts : WriterFacts base (seen s)
   facts = writer-state base (seen s) (holds _ g)
@@ -42,7 +37,7 @@ module _ (s : WriterState) (g : writerGood base (seen s) ≡ true) where
   good-setup = is-true (setupGood base (setupOf (s .setup))) (facts .setup)
 
   pub good-size : s .setup .n ≤ 16
-  good-size = setup-slots base (setupOf (s .setup)) (facts .setup) .1
+  good-size = small (s .setup) good-setup .n
 
   pub good-current : s .current .0 < 16
   good-current = omega (arith, facts .writer .below, good-size)

@@ -3,18 +3,13 @@ use borrow.Author.Needs.{needs}
 use borrow.Author.Tests.{not-true, not-false}
 use mathlib.Core.Path.{_≡_, sym, ap, _∙_}
 use mathlib.Core.Bool.{_&&_}
-use mathlib.Core.List.{_∷_, []}
 use Prim.Native.Nat.{_≤_, _+_, _-_, _*_}
 use native.Mathlib.Omega.{arith}
-use lib.IntN.{pos}
-use lib.ListN.{getD}
-use mir.Syntax.{w32}
-use mir.Val.{SFits}
-use mir.ValLaws.{toZ-ofZ}
-use Rattle.model.specs.Frame.{goodRow, goodRows, rowsFrom}
-use Rattle.model.proofs.Rows.{rows-next, rows-none, row-of-four}
+use Rattle.model.specs.Frame.{numbersFrom, goodRow, goodRows, rowsFrom}
+use Rattle.model.proofs.Rows.{rows-next, rows-none}
 use Rattle.panel.specs.Seen.{axesOf}
-use Rattle.frame.proofs.Ranges.{small}
+use Rattle.panel.proofs.Signs.{row-read}
+use Rattle.panel.proofs.Setups.{small}
 use Rattle.frame.proofs.values_ok.Statement.{statement}
 use Rattle.frame.proofs.values_ok.Tie as tie
 
@@ -34,17 +29,9 @@ step c =
     let f = a .frame .now in
     let axes = axesOf (a .setup) in
     let rest = rowsFrom 4 (a .setup .n - (l .s + 1)) f (4 * (l .s + 1)) in
-    let k0 = getD f (4 * l .s) (pos 0) in
-    let k1 = getD f (4 * l .s + 1) (pos 0) in
-    let k2 = getD f (4 * l .s + 2) (pos 0) in
-    let k3 = getD f (4 * l .s + 3) (pos 0) in
-    let f0 : SFits w32 k0 = search needs in
-    let f1 : SFits w32 k1 = search needs in
-    let f2 : SFits w32 k2 = search needs in
-    let f3 : SFits w32 k3 = search needs in
-    let e : c .row-ok .result ≡ goodRow axes (k0 ∷ k1 ∷ k2 ∷ k3 ∷ []) = rw (toZ-ofZ w32 k0 f0, toZ-ofZ w32 k1 f1, toZ-ofZ w32 k2 f2, toZ-ofZ w32 k3 f3) at (c .row-ok .ensures) in
+    let e : c .row-ok .result ≡ goodRow axes (numbersFrom 4 f (4 * l .s)) = c .row-ok .ensures ∙ ap (goodRow axes) (row-read f (4 * l .s) (search needs) (search needs) (search needs) (search needs)) in
     l .inv .1 ∙ ap (goodRows axes) (rows-next 4 (a .setup .n) (l .s) f (search needs))
-    ∙ ap (λ g. goodRow axes g && goodRows axes rest) (row-of-four f (4 * l .s)) ∙ ap (λ b. b && goodRows axes rest) (sym e)
+    ∙ ap (λ b. b && goodRows axes rest) (sym e)
 
 loop-holds : tie.Need-loop-holds Inv-loop μ-loop
 loop-holds c =
@@ -88,7 +75,9 @@ shared-slice-copy-out-row-ok-4 : tie.Need-shared-slice-copy-out-row-ok-4 Inv-loo
 shared-slice-copy-out-row-ok-4 c = search needs
 
 row-ok-requires : tie.Need-row-ok-requires Inv-loop μ-loop
-row-ok-requires c κs = small (c .before .before .before .before .before .before .args .setup) (c .before .before .before .before .before .before .pre .0)
+row-ok-requires c κs =
+    let s = small (c .before .before .before .before .before .before .args .setup) (c .before .before .before .before .before .before .pre .0) in
+    (omega (arith, s .x), omega (arith, s .y), omega (arith, s .pressure))
 
 returns : tie.Need-returns Inv-loop μ-loop
 returns c = sym (rw (not-true (c .before .row-ok .result) (c .if1 .taken)) at (step (c .before)))

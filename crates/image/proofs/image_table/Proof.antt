@@ -1,16 +1,13 @@
 -- `image::image_table` makes the image's table. The loop has filled i slots. Assumes nothing.
 use borrow.Author.Needs.{needs}
-use mathlib.Core.Path.{_≡_, sym, ap, ap₂, _∙_}
-use Prim.Native.Nat.{_+_, _-_, _*_, _≤_, _<_}
+use mathlib.Core.Path.{_≡_, ap, ap₂, _∙_}
+use Prim.Native.Nat.{_-_, _*_, _≤_, _<_}
 use native.Mathlib.Omega.{arith}
-use lib.IntN.{pos}
-use lib.ListN.{length, getD, set}
-use mir.Syntax.{w32}
-use mir.Val.{SFits}
-use mir.ValLaws.{toZ-ofZ}
+use lib.ListN.{length, set}
 use Rattle.model.specs.Frame.{numbersFrom}
 use Rattle.panel.specs.Seen.{slotFrom}
-use Rattle.image.proofs.Images.{four, filled, filled-start, filled-next, filled-end}
+use Rattle.panel.proofs.Signs.{row-read}
+use Rattle.image.proofs.Images.{filled, filled-start, filled-next, filled-end}
 use Rattle.image.proofs.image_table.Statement.{statement}
 use Rattle.image.proofs.image_table.Tie as tie
 
@@ -81,11 +78,7 @@ loop-again : tie.Need-loop-again Inv-loop μ-loop
 loop-again c =
     let l = c .before .before .before .before .before .before .before .before .args .image .now in
     let i = c .before .before .before .before .before .before .loop .i in
-    let f0 : SFits w32 (getD l (4 * i) (pos 0)) = search needs in
-    let f1 : SFits w32 (getD l (4 * i + 1) (pos 0)) = search needs in
-    let f2 : SFits w32 (getD l (4 * i + 2) (pos 0)) = search needs in
-    let f3 : SFits w32 (getD l (4 * i + 3) (pos 0)) = search needs in
-    let e : c .slot-of .result ≡ slotFrom (numbersFrom 4 l (4 * i)) = (rw (toZ-ofZ w32 (getD l (4 * i) (pos 0)) f0, toZ-ofZ w32 (getD l (4 * i + 1) (pos 0)) f1, toZ-ofZ w32 (getD l (4 * i + 2) (pos 0)) f2, toZ-ofZ w32 (getD l (4 * i + 3) (pos 0)) f3) at (c .slot-of .ensures)) ∙ ap slotFrom (sym (four l i)) in
+    let e : c .slot-of .result ≡ slotFrom (numbersFrom 4 l (4 * i)) = c .slot-of .ensures ∙ ap slotFrom (row-read l (4 * i) (search needs) (search needs) (search needs) (search needs)) in
     let h : i < 16 = omega (arith, c .before .before .before .before .before .before .loop .inv, c .before .before .before .before .before .loop-test .taken) in
     (search needs, search needs, search needs, ap₂ (λ t x. set t i x) (c .before .before .before .before .before .before .loop .inv .3) e ∙ filled-next l i h)
 

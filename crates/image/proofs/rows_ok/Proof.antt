@@ -5,15 +5,11 @@ use mathlib.Core.Path.{_≡_, sym, ap, _∙_}
 use mathlib.Core.Bool.{_&&_}
 use Prim.Native.Nat.{_+_, _-_, _*_, _≤_}
 use native.Mathlib.Omega.{arith}
-use lib.IntN.{pos}
-use lib.ListN.{getD}
-use mir.Syntax.{w32}
-use mir.Val.{SFits}
-use mir.ValLaws.{toZ-ofZ}
 use Rattle.model.specs.Table.{goodSlot, goodRecords}
 use Rattle.model.specs.Frame.{rowsFrom, numbersFrom}
 use Rattle.panel.specs.Seen.{fieldsOf}
-use Rattle.image.proofs.Images.{four, good-next, good-end}
+use Rattle.panel.proofs.Signs.{row-read}
+use Rattle.image.proofs.Images.{good-next, good-end}
 use Rattle.image.proofs.rows_ok.Statement.{statement}
 use Rattle.image.proofs.rows_ok.Tie as tie
 
@@ -30,13 +26,7 @@ step c =
     let u = c .before .before .before .before .before .before .before .args .setup in
     let l = c .before .before .before .before .before .before .before .args .image .now in
     let i = c .before .before .before .before .before .before .loop .i in
-    let f0 : SFits w32 (getD l (4 * i) (pos 0)) = search needs in
-    let f1 : SFits w32 (getD l (4 * i + 1) (pos 0)) = search needs in
-    let f2 : SFits w32 (getD l (4 * i + 2) (pos 0)) = search needs in
-    let f3 : SFits w32 (getD l (4 * i + 3) (pos 0)) = search needs in
-    let e : c .row-ok .result ≡ goodSlot (fieldsOf u) (numbersFrom 4 l (4 * i)) =
-    (rw (toZ-ofZ w32 (getD l (4 * i) (pos 0)) f0, toZ-ofZ w32 (getD l (4 * i + 1) (pos 0)) f1, toZ-ofZ w32 (getD l (4 * i + 2) (pos 0)) f2, toZ-ofZ w32 (getD l (4 * i + 3) (pos 0)) f3) at (c .row-ok .ensures)) ∙ ap (goodSlot (fieldsOf u)) (sym (four l i))
-    in
+    let e : c .row-ok .result ≡ goodSlot (fieldsOf u) (numbersFrom 4 l (4 * i)) = c .row-ok .ensures ∙ ap (goodSlot (fieldsOf u)) (row-read l (4 * i) (search needs) (search needs) (search needs) (search needs)) in
     c .before .before .before .before .before .before .loop .inv .1 ∙ good-next (fieldsOf u) l (u .n) i (search needs) ∙ ap (λ b. b && goodRecords (fieldsOf u) (u .n - (i + 1)) (rowsFrom 4 (u .n - (i + 1)) l (4 * (i + 1)))) (sym e)
 
 loop-holds : tie.Need-loop-holds Inv-loop μ-loop

@@ -14,12 +14,13 @@ use mir.Val.{SFits}
 use mir.ValLaws.{toZ-ofZ}
 use Rattle.model.specs.Numbers.{eqZ}
 use Rattle.model.specs.Frame.{Fate, fate, next, freeId, rowsFrom, slotAfter, takenAfter, counterAfter, tableFrom, counterFrom, newTable, newCounter}
+use Rattle.model.proofs.Bools.{and-left, and-right}
 use Rattle.model.proofs.Rows.{rows-next, rows-none, row-of-four}
 use Rattle.model.proofs.Tries.{Same, same-last}
 use Rattle.panel.specs.declared.Slot.{Slot}
 use Rattle.panel.specs.Seen.{slotOf, tableOf, blank}
 use Rattle.plan.specs.Row.{begun, held, stayed, plainRow, plainRows}
-use Rattle.plan.proofs.Turn.{and-left, and-right, begun-slot, stayed-slot, begun-taken, begun-counter, stayed-taken, stayed-counter, table-turn, counter-turn}
+use Rattle.plan.proofs.Turn.{begun-slot, stayed-slot, begun-taken, begun-counter, stayed-taken, stayed-counter, table-turn, counter-turn}
 use Rattle.plan.proofs.plan_frame.Statement.{statement}
 use Rattle.plan.proofs.plan_frame.Tie as tie
 

@@ -10,7 +10,7 @@ use Rattle.model.proofs.Answers.{load-bad-state, load-not-stale, load-bad-image
 use Rattle.panel.specs.declared.Verdict.the-variants as W
 use Rattle.runs.specs.Seen.{modeOf, seen}
 use Rattle.reader.specs.Seen.{loadedFrom}
-use Rattle.runs.proofs.Turns.{state-back}
+use Rattle.runs.proofs.Back.{state-back}
 use Rattle.reader.proofs.States.{good-small, image-length}
 use Rattle.reader.proofs.load.Statement.{statement}
 use Rattle.reader.proofs.load.Tie as tie

@@ -17,7 +17,7 @@ use Rattle.records.specs.Seen.{eventOf}
 use Rattle.runs.specs.Seen.{seen, ranFrom}
 use Rattle.reader.specs.Seen.{refusedRun}
 use Rattle.runs.specs.Runs.{answered}
-use Rattle.runs.proofs.Turns.{state-back}
+use Rattle.runs.proofs.Back.{state-back}
 use Rattle.reader.proofs.States.{one-record}
 use Rattle.reader.proofs.read_one.Statement.{statement}
 use Rattle.reader.proofs.read_one.Tie as tie

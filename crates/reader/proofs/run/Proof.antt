@@ -9,7 +9,7 @@ use Rattle.model.proofs.Answers.{run-bad-state, run-ragged, run-whole}
 use Rattle.panel.specs.declared.Verdict.the-variants as W
 use Rattle.runs.specs.Seen.{seen, ranFrom}
 use Rattle.reader.specs.Seen.{refusedRun}
-use Rattle.runs.proofs.Turns.{state-back}
+use Rattle.runs.proofs.Back.{state-back}
 use Rattle.reader.proofs.run.Statement.{statement}
 use Rattle.reader.proofs.run.Tie as tie
 

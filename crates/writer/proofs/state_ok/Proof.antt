@@ -9,7 +9,8 @@ use Rattle.model.specs.Table.{idsDiffer, goodRecords}
 use Rattle.panel.specs.Seen.{tableOf, setupOf, fieldsOf}
 use Rattle.panel.proofs.Tables.{unmapped}
 use Rattle.writer.specs.declared.WriterState.{WriterState}
-use Rattle.writer.proofs.States.{good-by, setup-size}
+use Rattle.panel.proofs.Setups.{small}
+use Rattle.writer.proofs.States.{good-by}
 use borrow.Author.Needs.{needs}
 use Rattle.writer.proofs.state_ok.Statement.{statement}
 use Rattle.writer.proofs.state_ok.Tie as tie
@@ -49,7 +50,7 @@ returns c =
     sym (good-by (st s) (sixteen s) false (records s) (ids s) (below s) (sym (c .before .setup-ok .ensures) ∙ not-true (c .before .setup-ok .result) (c .if1 .taken)) refl refl refl)
 
 table-ok-requires : tie.Need-table-ok-requires
-table-ok-requires c κs = setup-size (st (c .before .before) .setup) (setup-is c)
+table-ok-requires c κs = small (st (c .before .before) .setup) (setup-is c) .n
 
 returns-2 : tie.Need-returns-2
 returns-2 c =

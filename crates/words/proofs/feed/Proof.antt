@@ -1,4 +1,4 @@
--- `show_pod::feed` meets its contract: the loop's invariant is that the bytes left lead to the same state; the measure is how
+-- `words::feed` meets its contract: the loop's invariant is that the bytes left lead to the same state; the measure is how
 -- many are left. Cited by the proofs of its callers; assumes nothing.
 use mathlib.Core.Path.{_≡_, refl, sym, ap, _∙_}
 use Prim.Native.Nat.{suc, _+_, _-_, _≤_, _<_}
@@ -9,14 +9,14 @@ use lib.Seq.{drop-cons}
 use borrow.Author.Needs.{needs}
 use Rattle.pod.specs.Seen.{stateAfter}
 use Rattle.pod.proofs.Promises.{after-one}
-use Rattle.show_pod.proofs.feed.Statement.{statement}
-use Rattle.show_pod.proofs.feed.Tie as tie
+use Rattle.words.proofs.feed.Statement.{statement}
+use Rattle.words.proofs.feed.Tie as tie
 
 abbrev Inv-loop : tie.InvT-loop
-Inv-loop bytes s₀ i₀ s i = (i ≤ length bytes) × (stateAfter s₀ bytes ≡ stateAfter s (drop i bytes))
+Inv-loop bytes lines s₀ i₀ s i = (i ≤ length bytes) × (stateAfter s₀ bytes ≡ stateAfter s (drop i bytes))
 
 abbrev μ-loop : tie.MeasureT-loop
-μ-loop bytes s₀ i₀ s i = length bytes - i
+μ-loop bytes lines s₀ i₀ s i = length bytes - i
 
 loop-holds : tie.Need-loop-holds Inv-loop μ-loop
 loop-holds c = (search needs, refl)
@@ -27,8 +27,8 @@ shared-slice-read-step c = search needs
 step-requires : tie.Need-step-requires Inv-loop μ-loop
 step-requires c κs = search needs
 
-say-report-requires : tie.Need-say-report-requires Inv-loop μ-loop
-say-report-requires c κs = search needs
+say-answer-requires : tie.Need-say-answer-requires Inv-loop μ-loop
+say-answer-requires c κs = search needs
 
 add-i : tie.Need-add-i Inv-loop μ-loop
 add-i c = search needs
@@ -60,7 +60,7 @@ feed-spec =
     loop-holds
     shared-slice-read-step
     step-requires
-    say-report-requires
+    say-answer-requires
     add-i
     loop-less
     loop-again

@@ -1,17 +1,14 @@
--- `show_table::say_table` reads no slot past the table. Assumes nothing.
+-- `words::say_slots` reads no slot past the table. Assumes nothing.
 use Prim.Native.Nat.{_≤_, _-_}
 use borrow.Author.Needs.{needs}
-use Rattle.show_table.proofs.say_table.Statement.{statement}
-use Rattle.show_table.proofs.say_table.Tie as tie
-use Rattle.show_table.proofs.say_table.Reads as reads
-use Rattle.show_table.proofs.say_table.Lts as lts
-use Rattle.show_table.proofs.say_slot.Reads as say-slot-reads
+use Rattle.words.proofs.say_slots.Statement.{statement}
+use Rattle.words.proofs.say_slots.Tie as tie
 
 abbrev Inv-loop : tie.InvT-loop
-Inv-loop n shown k₀ k = k ≤ 16
+Inv-loop n lines table k₀ k = k ≤ 16
 
 abbrev μ-loop : tie.MeasureT-loop
-μ-loop n shown k₀ k = 16 - k
+μ-loop n lines table k₀ k = 16 - k
 
 loop-holds : tie.Need-loop-holds Inv-loop μ-loop
 loop-holds c = search needs
@@ -37,8 +34,8 @@ loop-again c = search needs
 returns : tie.Need-returns Inv-loop μ-loop
 returns c = search needs
 
-pub say-table-spec : {M : Type 1} → statement M
-say-table-spec =
+pub say-slots-spec : {M : Type 1} → statement M
+say-slots-spec =
     tie.close
     (tie.spec
     Inv-loop
