@@ -21,20 +21,6 @@ const AT: usize = 3;
 
 const FILLED: u8 = 170;
 
-// By itself, since a parameter is known to fit its type, which spares a proof that an element of a slice does.
-fn say_byte(b: u8) {
-    words::say_number(b as u64);
-}
-
-fn say_bytes(bytes: &[u8]) {
-    stream::say(b" bytes");
-    let mut i = 0;
-    while i < bytes.len() {
-        say_byte(bytes[i]);
-        i += 1;
-    }
-}
-
 fn say_setup(s: Setup) {
     words::say_part(b" setup", s.n as u64);
     words::say_number(s.x as u64);
@@ -44,7 +30,7 @@ fn say_setup(s: Setup) {
 
 fn say_table(name: &[u8], table: [Slot; RECORDS]) {
     stream::say(name);
-    words::say_slots(table, RECORDS, false);
+    words::say_slots(table, RECORDS, b",", false);
 }
 
 fn say_mode(m: Mode) {
@@ -88,7 +74,8 @@ fn say_written(name: &[u8], a: Written, buf: &[u8]) {
     words::say_part(b" changed", a.changed as u64);
     words::say_part(b" need", a.need as u64);
     say_writer(state);
-    say_bytes(buf);
+    stream::say(b" bytes");
+    words::say_bytes(buf);
     stream::say(b"\n");
 }
 
@@ -161,7 +148,8 @@ fn pod_case(name: &[u8], bytes: &[u8]) {
     let s = words::feed(PodState::fresh(), bytes, false);
     let held = s.bytes;
     words::say_part(b" count", s.count as u64);
-    say_bytes(&held);
+    stream::say(b" bytes");
+    words::say_bytes(&held);
     stream::say(b"\n");
 }
 

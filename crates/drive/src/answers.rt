@@ -101,7 +101,7 @@ fn write_into(ns: &[u64], frame: &[i32], buf: &mut [u8]) {
     let a = writer::write(states::writer_of(ns), frame, buf, position);
     written(a);
     stream::say(b" :");
-    say::bytes(buf);
+    words::say_bytes(buf);
 }
 
 fn write(ns: &[u64]) {

@@ -26,21 +26,8 @@ fn setup(s: Setup) {
     words::say_number(s.pressure as u64);
 }
 
-fn slot(s: Slot) {
-    let id = s.id;
-    stream::say(b" ");
-    stream::say_signed(id.0);
-    words::say_number(s.x as u64);
-    words::say_number(s.y as u64);
-    words::say_number(s.pressure as u64);
-}
-
 fn table(t: [Slot; RECORDS]) {
-    let mut k: usize = 0;
-    while k < RECORDS {
-        slot(t[k]);
-        k += 1;
-    }
+    words::say_slots(t, RECORDS, b" ", false);
 }
 
 fn mode(m: Mode) {
@@ -93,8 +80,8 @@ pub fn counts(c: Counts) {
 }
 
 fn contact(s: Slot) {
-    stream::say(b"contact");
-    slot(s);
+    stream::say(b"contact ");
+    words::say_slot(s, b" ");
 }
 
 fn refused(v: Verdict) {
@@ -108,18 +95,5 @@ pub fn slot_answer(a: SlotAnswer) {
         SlotAnswer::Unknown => stream::say(b"unknown"),
         SlotAnswer::NoSuchSlot => stream::say(b"none"),
         SlotAnswer::Refused(v) => refused(v),
-    }
-}
-
-// By itself, since a parameter is known to fit its type, which spares a proof that an element of a slice does.
-fn byte(b: u8) {
-    words::say_number(b as u64);
-}
-
-pub fn bytes(s: &[u8]) {
-    let mut i: usize = 0;
-    while i < s.len() {
-        byte(s[i]);
-        i += 1;
     }
 }

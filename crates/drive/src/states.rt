@@ -30,15 +30,8 @@ pub fn natural(ns: &[u64], i: usize) -> u32 {
     low(number(ns, i))
 }
 
-fn signed_of(v: u32) -> i32 {
-    if v < 0x8000_0000 {
-        return v as i32;
-    }
-    !((0xffff_ffff - v) as i32)
-}
-
 fn signed(ns: &[u64], i: usize) -> i32 {
-    signed_of(natural(ns, i))
+    records::signed_of(natural(ns, i))
 }
 
 pub fn half(ns: &[u64], i: usize) -> u16 {

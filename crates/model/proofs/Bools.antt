@@ -1,9 +1,11 @@
 -- Laws on tests, and on the equality of whole numbers. Cited by nearly every proof here and in the code's crates. Assumes nothing.
 use mathlib.Core.Path.{_≡_, refl, ap}
-use mathlib.Core.Bool.{Bool, true, false, not, _&&_, false≢true}
-use Prim.Native.Nat.{ℕ}
+use mathlib.Core.Bool.{Bool, true, false, not, _&&_, cond, false≢true}
+use Prim.Native.Nat.{ℕ, suc, _-_}
+use native.Mathlib.Omega.{arith}
 use lib.Dec.{T, eqb→eq, eqb-refl, not-T}
 use lib.IntN.{ℤ, pos, negsuc}
+use mir.Val.{sel}
 use Rattle.model.specs.Numbers.{eqZ}
 -- Brought in so that the sheet is checked before any law: a wrong definition then fails at a row of it, by computing.
 use Rattle.model.proofs.Bench
@@ -63,3 +65,10 @@ apart a b n = not-T (eqZ (pos a) (pos b)) (λ t. n (pos-inj a b (eqZ→eq (pos a
   where
     pos-inj : (a b : ℕ) → pos a ≡ pos b → a ≡ b
     pos-inj a b e = cc
+
+-- ---- a sign bit
+
+-- What the machine reads of bits below top, by the test of the highest, is two's complement.
+pub by-sign : (top v : ℕ) (b : Bool) → sel b (pos v) (negsuc (top - suc v)) ≡ cond b (pos v) (negsuc (top - 1 - v))
+by-sign top v true = refl
+by-sign top v false = ap negsuc (omega arith)

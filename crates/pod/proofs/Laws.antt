@@ -12,18 +12,14 @@ use lib.ListN.{length, getD, take, drop, List·getD-append}
 use lib.Seq.{length-take-le, getD-take, getD-at, drop-cons}
 use borrow.Author.Tests.{ltb-true, lt-ltb}
 use mir.Syntax.{w8}
-use mir.Val.{toZ, sel}
+use mir.Val.{toZ}
+use Rattle.model.proofs.Bools.{by-sign}
 use Rattle.model.specs.Pod.{kindOf, lengthOf, places, unfinished, zeros, firstOf, Report, byteAt, signed, word, judged, judgedAbsolute, judgedBoth, judgedStick, absoluteReport, relativeReport, bothSticksReport, oneStickReport, relative}
 
--- A byte's sign, by its test.
-by-sign : (b : ℕ) → b < 2 ^ 8 → (t : Bool) → sel t (pos b) (negsuc (2 ^ 8 - suc b)) ≡ cond t (pos b) (negsuc (0xff - b))
-by-sign b h true = refl
-by-sign b h false = ap negsuc (omega arith)
-
 -- The machine's reading of eight bits as a signed number is two's complement.
-pub toZ-signed : (b : ℕ) → b < 2 ^ 8 → toZ w8 b ≡ signed b
+pub toZ-signed : (b : ℕ) → toZ w8 b ≡ signed b
 unfolding signed
-toZ-signed b h = by-sign b h (ltb b 0x80)
+toZ-signed b = by-sign (2 ^ 8) b (ltb b 0x80)
 
 -- ---- the bytes of a whole report: those held, and the last one
 

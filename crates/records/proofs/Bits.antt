@@ -3,14 +3,15 @@ use mathlib.Core.Path.{_≡_, refl}
 use mathlib.Core.Bool.{true, false}
 use Prim.Native.Nat.{ℕ, suc, _-_, _^_, _<_}
 use native.Mathlib.Omega.{arith}
-use lib.Dec.{T}
+use lib.Dec.{T, ltb}
 use lib.IntN.{ℤ, pos, negsuc, natAbs}
 use borrow.Author.Tests.{leb-false}
 use lib.Signed.{leZ, nonNeg}
 use mir.Syntax.{w32}
 use mir.Val.{SFits, toZ, ofZ}
 use mir.ValLaws.{toZ-pos}
-use Rattle.model.specs.Records.{bitsOf}
+use Rattle.model.specs.Records.{bitsOf, signedOf}
+use Rattle.model.proofs.Bools.{by-sign}
 
 -- ---- the machine's bits are the model's
 
@@ -36,3 +37,9 @@ below-zero (negsuc n) f e =
     let p : 4294967295 - (2 ^ 32 - suc n) ≡ n = omega arith in
     let q : 4294967295 - (4294967295 - n) ≡ n = omega arith in
     rw (p, q) (toZ-pos w32 n (f .sfits))
+
+-- ---- and so is its reading of 32 bits
+
+pub signed-same : (v : ℕ) → toZ w32 v ≡ signedOf v
+unfolding signedOf
+signed-same v = by-sign (2 ^ 32) v (ltb v 2147483648)

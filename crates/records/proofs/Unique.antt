@@ -11,6 +11,7 @@ use Rattle.records.specs.Seen.{eventOf}
 use Rattle.records.proofs.join32.Reads as join32
 use Rattle.records.proofs.record_at.Reads as record-at
 use Rattle.records.proofs.bits_of.Reads as bits-of
+use Rattle.records.proofs.signed_of.Reads as signed-of
 use Rattle.records.proofs.put.Reads as put
 
 pub join32-one : OneAnswer join32.Learnt
@@ -18,6 +19,9 @@ join32-one κs a r q s t e g = e ∙ sym g
 
 pub bits-of-one : OneAnswer bits-of.Learnt
 bits-of-one κs a r q s t e g = e ∙ sym g
+
+pub signed-of-one : OneAnswer signed-of.Learnt
+signed-of-one κs a r q s t e g = e ∙ sym g
 
 -- A value of 32 bits is known by its signed number.
 abbrev eventFrom : E.Event → Event

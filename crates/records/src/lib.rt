@@ -2,7 +2,7 @@
 ghost use mathlib.Core.Path.{_≡_};
 ghost use Prim.Native.Nat.{_+_, _≤_};
 ghost use lib.ListN.{length};
-ghost use Rattle.model.specs.Records.{bitsOf, recordBytes, eventAt, join16 as joined16, join32 as joined32};
+ghost use Rattle.model.specs.Records.{bitsOf, signedOf, recordBytes, eventAt, join16 as joined16, join32 as joined32};
 ghost use Rattle.records.specs.Seen.{eventOf, over};
 
 // A record's bytes.
@@ -67,6 +67,16 @@ pub fn bits_of(z: i32) -> u32
         return z as u32;
     }
     0xffff_ffff - (!z as u32)
+}
+
+// And back. By the complement, since no cast of 2^31 and more to an i32 is defined.
+pub fn signed_of(v: u32) -> i32
+    ensures { λ r. ⌜ r ≡ signedOf v ⌝ }
+{
+    if v < 0x8000_0000 {
+        return v as i32;
+    }
+    !((0xffff_ffff - v) as i32)
 }
 
 // A record's bytes at the start of `b`; the others stay.

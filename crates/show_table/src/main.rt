@@ -28,7 +28,7 @@ fn say_state(s: ReaderState) {
     if is_following(m) {
         let shown = s.shown;
         let setup = s.setup;
-        words::say_slots(shown, setup.n, true);
+        words::say_slots(shown, setup.n, b" ", true);
     }
 }
 

@@ -1,4 +1,4 @@
-// Pod reports, tables and numbers in words, on standard output: what show_pod, show_table and bench_sheet have in common. It promises nothing about a stream but that saying ends.
+// Pod reports, tables and numbers in words, on standard output: what the programs have in common. It promises nothing about a stream but that saying ends.
 ghost use mathlib.Core.Path.{_≡_};
 ghost use Rattle.pod.specs.Seen.{stateAfter};
 use panel::RECORDS;
@@ -131,7 +131,8 @@ pub fn feed(state: PodState, bytes: &[u8], lines: bool) -> PodState
     s
 }
 
-fn say_four(s: Slot, between: &[u8]) {
+// A slot's four numbers with something between them.
+pub fn say_slot(s: Slot, between: &[u8]) {
     let id = s.id;
     stream::say_signed(id.0);
     stream::say(between);
@@ -142,25 +143,37 @@ fn say_four(s: Slot, between: &[u8]) {
     stream::say_number(s.pressure as u64);
 }
 
-fn say_slot(k: usize, s: Slot, lines: bool) {
-    if !lines {
-        stream::say(b" ");
-        say_four(s, b",");
-        return;
+fn say_place(k: usize, s: Slot, between: &[u8], lines: bool) {
+    if lines {
+        stream::say_number(k as u64);
     }
-    stream::say_number(k as u64);
     stream::say(b" ");
-    say_four(s, b" ");
-    stream::say(b"\n");
+    say_slot(s, between);
+    if lines {
+        stream::say(b"\n");
+    }
 }
 
 // The first n slots of a table: each on a line of its own after its number, or all on one line.
-pub fn say_slots(table: [Slot; RECORDS], n: usize, lines: bool) {
+pub fn say_slots(table: [Slot; RECORDS], n: usize, between: &[u8], lines: bool) {
     let mut k: usize = 0;
     while k < RECORDS {
         if k < n {
-            say_slot(k, table[k], lines);
+            say_place(k, table[k], between, lines);
         }
         k += 1;
+    }
+}
+
+// By itself, since a parameter is known to fit its type, which spares a proof that an element of a slice does.
+fn say_byte(b: u8) {
+    say_number(b as u64);
+}
+
+pub fn say_bytes(bytes: &[u8]) {
+    let mut i: usize = 0;
+    while i < bytes.len() {
+        say_byte(bytes[i]);
+        i += 1;
     }
 }

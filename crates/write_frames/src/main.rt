@@ -12,20 +12,12 @@ const NUMBERS: usize = 4 * RECORDS;
 
 const EVENTS: usize = 640;
 
-// 32 bits as a signed number.
-fn signed(v: u32) -> i32 {
-    if v < 0x8000_0000 {
-        return v as i32;
-    }
-    !((0xffff_ffff - v) as i32)
-}
-
 fn numbers_of(b: [u8; BYTES]) -> [i32; NUMBERS] {
     let mut f = [0; NUMBERS];
     let mut i: usize = 0;
     while i < NUMBERS {
         let at = 4 * i;
-        let v = signed(records::join32(b[at], b[at + 1], b[at + 2], b[at + 3]));
+        let v = records::signed_of(records::join32(b[at], b[at + 1], b[at + 2], b[at + 3]));
         f[i] = v;
         i += 1;
     }

@@ -14,7 +14,7 @@ cast-result : tie.Need-cast-result
 cast-result c = search needs
 
 returns : tie.Need-returns
-returns c = toZ-signed (c .before .args .b) (omega arith)
+returns c = toZ-signed (c .before .args .b)
 
 sub-result : tie.Need-sub-result
 sub-result c = search needs
@@ -26,7 +26,7 @@ returns-2 : tie.Need-returns-2
 returns-2 c =
     let b = c .before .args .b in
     let e : 255 - (255 - b) ≡ b = omega arith in
-    ap (toZ w8) e ∙ toZ-signed b (omega arith)
+    ap (toZ w8) e ∙ toZ-signed b
 
 pub signed-of-spec : {M : Type 1} → statement M
 signed-of-spec = tie.close (tie.spec cast-result returns sub-result cast-result-2 returns-2)

@@ -1,26 +1,26 @@
--- `words::say_slots` reads no slot past the table. Assumes nothing.
+-- `words::say_slots` reads no slot past the table. The loop has passed k slots. Assumes nothing.
 use Prim.Native.Nat.{_≤_, _-_}
 use borrow.Author.Needs.{needs}
 use Rattle.words.proofs.say_slots.Statement.{statement}
 use Rattle.words.proofs.say_slots.Tie as tie
 
 abbrev Inv-loop : tie.InvT-loop
-Inv-loop n lines table k₀ k = k ≤ 16
+Inv-loop n between lines table k₀ k = k ≤ 16
 
 abbrev μ-loop : tie.MeasureT-loop
-μ-loop n lines table k₀ k = 16 - k
+μ-loop n between lines table k₀ k = 16 - k
 
 loop-holds : tie.Need-loop-holds Inv-loop μ-loop
 loop-holds c = search needs
 
-mul-say-slot : tie.Need-mul-say-slot Inv-loop μ-loop
-mul-say-slot c = search needs
+mul-say-place : tie.Need-mul-say-place Inv-loop μ-loop
+mul-say-place c = search needs
 
-array-copy-out-say-slot : tie.Need-array-copy-out-say-slot Inv-loop μ-loop
-array-copy-out-say-slot c = search needs
+array-copy-out-say-place : tie.Need-array-copy-out-say-place Inv-loop μ-loop
+array-copy-out-say-place c = search needs
 
-say-slot-requires : tie.Need-say-slot-requires Inv-loop μ-loop
-say-slot-requires c κs = search needs
+say-place-requires : tie.Need-say-place-requires Inv-loop μ-loop
+say-place-requires c κs = search needs
 
 add-k : tie.Need-add-k Inv-loop μ-loop
 add-k c = search needs
@@ -41,9 +41,9 @@ say-slots-spec =
     Inv-loop
     μ-loop
     loop-holds
-    mul-say-slot
-    array-copy-out-say-slot
-    say-slot-requires
+    mul-say-place
+    array-copy-out-say-place
+    say-place-requires
     add-k
     loop-less
     loop-again

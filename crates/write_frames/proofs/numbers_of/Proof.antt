@@ -40,8 +40,8 @@ array-read-join32-4 c = search needs
 join32-requires : tie.Need-join32-requires Inv-loop μ-loop
 join32-requires c κs = search needs
 
-signed-requires : tie.Need-signed-requires Inv-loop μ-loop
-signed-requires c κs = search needs
+signed-of-requires : tie.Need-signed-of-requires Inv-loop μ-loop
+signed-of-requires c κs = search needs
 
 mul-f : tie.Need-mul-f Inv-loop μ-loop
 mul-f c = search needs
@@ -77,7 +77,7 @@ numbers-of-spec =
     add-join32-3
     array-read-join32-4
     join32-requires
-    signed-requires
+    signed-of-requires
     mul-f
     array-set-from-f
     add-i

@@ -1,21 +1,15 @@
--- `bench_sheet::say_bytes` reads no byte past the slice. The loop has said i bytes. Assumes nothing.
+-- `words::say_bytes` reads no byte past those lent to it. The loop has said i of them. Assumes nothing.
 use Prim.Native.Nat.{_≤_, _-_}
 use lib.ListN.{length}
 use borrow.Author.Needs.{needs}
-use Rattle.bench_sheet.proofs.say_bytes.Statement.{statement}
-use Rattle.bench_sheet.proofs.say_bytes.Tie as tie
+use Rattle.words.proofs.say_bytes.Statement.{statement}
+use Rattle.words.proofs.say_bytes.Tie as tie
 
 abbrev Inv-loop : tie.InvT-loop
 Inv-loop bytes i₀ i = i ≤ length bytes
 
 abbrev μ-loop : tie.MeasureT-loop
 μ-loop bytes i₀ i = length bytes - i
-
-slice-aggregate-say : tie.Need-slice-aggregate-say Inv-loop μ-loop
-slice-aggregate-say c = search needs
-
-say-requires : tie.Need-say-requires Inv-loop μ-loop
-say-requires c κs = search needs
 
 loop-holds : tie.Need-loop-holds Inv-loop μ-loop
 loop-holds c = search needs
@@ -44,8 +38,6 @@ say-bytes-spec =
     (tie.spec
     Inv-loop
     μ-loop
-    slice-aggregate-say
-    say-requires
     loop-holds
     shared-slice-read-say-byte
     say-byte-requires
