@@ -1,17 +1,21 @@
--- A slot's tests, by the first number that fails. Cited by the proofs of `slot_ok` and `slots_same`. Assumes nothing.
-use mathlib.Core.Path.{_≡_}
-use mathlib.Core.Bool.{true, false}
+-- A slot's tests, by the first number that fails. Cited by the proofs of `slot_ok`, `slots_same` and `numbers_ok`, and by frame. Assumes nothing.
+use mathlib.Core.Path.{_≡_, sym, ap, ap₂, _∙_}
+use mathlib.Core.Bool.{Bool, true, false, _&&_}
+use mathlib.Core.List.{[], _∷_}
 use Prim.Native.Nat.{ℕ, _<_, _≤_}
 use native.Mathlib.Omega.{arith}
 use lib.Dec.{eqb, leb}
-use lib.IntN.{pos}
+use lib.IntN.{ℤ, pos}
 use borrow.Author.Tests.{eq-eqb, ne-eqb, lt-leb, le-leb}
+use mir.Syntax.{w32}
+use mir.Val.{SFits, ofZ, toZ}
+use mir.ValLaws.{toZ-ofZ}
 use Rattle.model.specs.Numbers.{eqZ, betweenZ}
 use Rattle.model.specs.Panel.{idField}
 use Rattle.model.specs.Table.{fits, goodSlot, eqSlot}
 use Rattle.panel.specs.declared.Slot.{Slot}
 use Rattle.panel.specs.declared.Setup.{Setup}
-use Rattle.panel.specs.Seen.{slotOf, fieldsOf}
+use Rattle.panel.specs.Seen.{slotOf, fieldsOf, axesOf}
 use Rattle.panel.proofs.Signs.{first-false, and-false, and-true}
 
 -- ---- a number that is not negative is good up to its largest value
@@ -50,3 +54,24 @@ module _ (a b : Slot) where
 
   pub same-4 : eqZ (a .id .0) (b .id .0) ≡ true → a .x ≡ b .x → a .y ≡ b .y → eqSlot (slotOf a) (slotOf b) ≡ eqb (a .pressure) (b .pressure)
   same-4 e l m = rw (e, eq-eqb (a .x) (b .x) l, eq-eqb (a .y) (b .y) m) (and-true _)
+
+-- ---- three numbers as they came in, each judged by its bits
+
+-- What a test says that was asked of a number's bits.
+abbrev Told : Bool → ℕ → ℤ → Type 0
+Told b top v = b ≡ betweenZ (pos 0) (pos top) (toZ w32 (ofZ w32 v))
+
+told : (b : Bool) (top : ℕ) (v : ℤ) → SFits w32 v → Told b top v → betweenZ (pos 0) (pos top) v ≡ b
+told b top v f e = sym (e ∙ ap (betweenZ (pos 0) (pos top)) (toZ-ofZ w32 v f))
+
+module _ (u : Setup) (x y p : ℤ) (a : Bool) (fx : SFits w32 x) (ea : Told a (u .x) x) where
+  pub numbers-1 : a ≡ false → false ≡ goodSlot (axesOf u) (x ∷ y ∷ p ∷ [])
+  numbers-1 n = sym (first-false (betweenZ (pos 0) (pos (u .x)) x) _ (told a (u .x) x fx ea ∙ n))
+
+  module _ (t : a ≡ true) (b : Bool) (fy : SFits w32 y) (eb : Told b (u .y) y) where
+    pub numbers-2 : b ≡ false → false ≡ goodSlot (axesOf u) (x ∷ y ∷ p ∷ [])
+    numbers-2 n = sym (ap₂ (λ z w. z && (w && (betweenZ (pos 0) (pos (u .pressure)) p && true))) (told a (u .x) x fx ea ∙ t) (told b (u .y) y fy eb ∙ n))
+
+    pub numbers-3 : b ≡ true → (c : Bool) → SFits w32 p → Told c (u .pressure) p → c ≡ goodSlot (axesOf u) (x ∷ y ∷ p ∷ [])
+    numbers-3 s c fp ec =
+        sym (ap₂ (λ z w. z && (w && (betweenZ (pos 0) (pos (u .pressure)) p && true))) (told a (u .x) x fx ea ∙ t) (told b (u .y) y fy eb ∙ s) ∙ and-true (betweenZ (pos 0) (pos (u .pressure)) p) ∙ told c (u .pressure) p fp ec)

@@ -7,7 +7,7 @@ use native.Mathlib.Numerals.{add-one}
 use native.Mathlib.Omega.{arith}
 use lib.IntN.{ℤ, pos, negsuc}
 use lib.ListN.{length, take, drop, getD, set}
-use lib.Seq.{drop-cons, take-suc-set, drop-set-lt}
+use lib.Seq.{take-suc-set, drop-set-lt}
 use lib.Signed.{leZ}
 use Rattle.model.specs.Numbers.{eqZ, betweenZ}
 use Rattle.model.specs.Table.{Table, numbersOf, goodSlot, live}
@@ -18,6 +18,7 @@ use Rattle.model.proofs.Tries.{Same, table-same, counter-same}
 use Rattle.panel.specs.declared.Slot as S
 use Rattle.panel.specs.declared.Setup.{Setup}
 use Rattle.panel.specs.Seen.{slotOf, tableOf, axesOf, blank}
+use Rattle.panel.proofs.Tables.{rest-is}
 use Rattle.plan.specs.Row.{begun, held, stayed, unsigned, plainRow, plainRows}
 
 -- ---- a row's numbers
@@ -120,9 +121,6 @@ module _ (taken : List ℤ) (k : ℕ) (t : List S.Slot) (s : ℕ) (h : s < lengt
   abbrev given : ℕ
   given = freeId taken k
 
-  rest-is : drop s t ≡ getD t s blank ∷ drop (s + 1) t
-  rest-is = rw add-one (drop-cons t s blank h)
-
   made-is : tableOf (take (s + 1) (set t s w)) ≡ tableOf (take s t) ++ slotOf w ∷ []
   made-is =
       let e : take (s + 1) (set t s w) ≡ take s t ++ w ∷ [] = rw add-one (take-suc-set t s w h) in
@@ -135,7 +133,7 @@ module _ (taken : List ℤ) (k : ℕ) (t : List S.Slot) (s : ℕ) (h : s < lengt
       → tableOf (take s t) ++ tableFrom taken k (g ∷ fr) (tableOf (drop s t)) ≡ tableOf (take (s + 1) (set t s w)) ++ tableFrom more n fr (tableOf (drop (s + 1) (set t s w)))
   table-turn e q r =
       let d = tableOf (drop (s + 1) t) in
-      ap (λ l. tableOf (take s t) ++ tableFrom taken k (g ∷ fr) (tableOf l)) rest-is
+      ap (λ l. tableOf (take s t) ++ tableFrom taken k (g ∷ fr) l) (rest-is t s h)
       ∙ ap₂ {C = Table} (λ a b. tableOf (take s t) ++ a ∷ b) (sym e)
       (table-same (takenAfter becomes given taken) more (counterAfter becomes given k) fr d q ∙ ap (λ m. tableFrom more m fr d) r)
       ∙ sym (append-assoc (tableOf (take s t)) (slotOf w ∷ []) (tableFrom more n fr d))
@@ -145,7 +143,7 @@ module _ (taken : List ℤ) (k : ℕ) (t : List S.Slot) (s : ℕ) (h : s < lengt
       → counterFrom taken k (g ∷ fr) (tableOf (drop s t)) ≡ counterFrom more n fr (tableOf (drop (s + 1) (set t s w)))
   counter-turn q r =
       let d = tableOf (drop (s + 1) t) in
-      ap (λ l. counterFrom taken k (g ∷ fr) (tableOf l)) rest-is
+      ap (λ l. counterFrom taken k (g ∷ fr) l) (rest-is t s h)
       ∙ counter-same (takenAfter becomes given taken) more (counterAfter becomes given k) fr d q
       ∙ ap (λ m. counterFrom more m fr d) r
       ∙ ap (λ l. counterFrom more n fr (tableOf l)) (sym kept-is)

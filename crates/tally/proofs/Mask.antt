@@ -4,12 +4,10 @@ use mathlib.Core.Bool.{true, false, _&&_}
 use mathlib.Core.List.{List, [], _∷_}
 use Prim.Native.Nat.{ℕ, zero, suc, _+_, _*_, _%_, _^_, _≤_, _<_}
 use native.Mathlib.Omega.{arith}
-use native.Mathlib.Numerals.{add-one}
 use native.Mathlib.Nat.{pow-suc, mod-eq-of-lt}
 use lib.Dec.{eqb}
 use lib.ListN.{length, length-map, length-drop, drop, getD}
 use lib.Pow.{pow-mono, pow-pos}
-use lib.Seq.{drop-cons}
 use borrow.Author.Tests.{ne-eqb}
 use Rattle.model.specs.Numbers.{eqZ}
 use Rattle.model.specs.Table as T
@@ -17,6 +15,7 @@ use Rattle.model.specs.Sending.{oneUnless, changedIn, sameSlot, changedNumbers,
 use Rattle.model.proofs.Ones.{mask-below}
 use Rattle.panel.specs.declared.Slot.{Slot}
 use Rattle.panel.specs.Seen.{slotOf, tableOf, blank}
+use Rattle.panel.proofs.Tables.{rest-is}
 
 -- A slot is the same if no number of it changed.
 pub same-count : (o v : T.Slot) → eqb (changedIn o v) 0 ≡ sameSlot o v
@@ -27,9 +26,6 @@ same-count (x ∷ o) (y ∷ v) =
       | true ↦ let z : 0 + changedIn o v ≡ changedIn o v = omega arith in ap (λ n. eqb n 0) z ∙ same-count o v
       | false ↦ ne-eqb (1 + changedIn o v) 0 (λ e. omega arith)
     ]
-
-rest-is : (t : List Slot) (s : ℕ) → s < length t → tableOf (drop s t) ≡ slotOf (getD t s blank) ∷ tableOf (drop (s + 1) t)
-rest-is t s h = rw (add-one, drop-cons t s blank h)
 
 -- Slot s, and the slots after it.
 module _ (old new : List Slot) (s : ℕ) (h : s < length old) (g : s < length new) where

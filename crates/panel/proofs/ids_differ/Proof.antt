@@ -16,13 +16,13 @@ use Rattle.panel.proofs.ids_differ.Statement.{statement}
 use Rattle.panel.proofs.ids_differ.Tie as tie
 
 abbrev Inv-loop2 : tie.InvT-loop2
-Inv-loop2 t i v j₀ j = (i ≤ 16) × (j ≤ 16) × (liveDiffer (ids (tableOf t)) ≡ (unheld (toZ w32 v) (drop j (ids (tableOf t))) && liveDiffer (drop i (ids (tableOf t)))))
+Inv-loop2 t i v j₀ j = (i ≤ 16) × (j ≤ 16) × (liveDiffer (ids (tableOf t)) ≡ (unheld (toZ w32 v) (ids (tableOf (drop j t))) && liveDiffer (ids (tableOf (drop i t)))))
 
 abbrev μ-loop2 : tie.MeasureT-loop2
 μ-loop2 t i v j₀ j = 16 - j
 
 abbrev Inv-loop : tie.InvT-loop
-Inv-loop t i₀ i = (i ≤ 16) × (liveDiffer (ids (tableOf t)) ≡ liveDiffer (drop i (ids (tableOf t))))
+Inv-loop t i₀ i = (i ≤ 16) × (liveDiffer (ids (tableOf t)) ≡ liveDiffer (ids (tableOf (drop i t))))
 
 abbrev μ-loop : tie.MeasureT-loop
 μ-loop t i₀ i = 16 - i
@@ -36,10 +36,10 @@ v-is c =
 same-is : (c : tie.After-same Inv-loop2 μ-loop2 Inv-loop μ-loop) → c .same .result ≡ eqZ (getD (c .before .before .before .before .before .before .args .t1) (c .before .before .before .before .before .loop .i) blank .id .0) minusOne
 same-is c = c .same .ensures ∙ ap (λ z. eqZ z minusOne) (v-is c)
 
-turned : (c : tie.After-same Inv-loop2 μ-loop2 Inv-loop μ-loop) → liveDiffer (ids (tableOf (c .before .before .before .before .before .before .args .t1))) ≡ ((not (live (getD (c .before .before .before .before .before .before .args .t1) (c .before .before .before .before .before .loop .i) blank .id .0)) || unheld (getD (c .before .before .before .before .before .before .args .t1) (c .before .before .before .before .before .loop .i) blank .id .0) (drop (c .before .before .before .before .before .loop .i + 1) (ids (tableOf (c .before .before .before .before .before .before .args .t1))))) && liveDiffer (drop (c .before .before .before .before .before .loop .i + 1) (ids (tableOf (c .before .before .before .before .before .before .args .t1)))))
+turned : (c : tie.After-same Inv-loop2 μ-loop2 Inv-loop μ-loop) → liveDiffer (ids (tableOf (c .before .before .before .before .before .before .args .t1))) ≡ ((not (live (getD (c .before .before .before .before .before .before .args .t1) (c .before .before .before .before .before .loop .i) blank .id .0)) || unheld (getD (c .before .before .before .before .before .before .args .t1) (c .before .before .before .before .before .loop .i) blank .id .0) (ids (tableOf (drop (c .before .before .before .before .before .loop .i + 1) (c .before .before .before .before .before .before .args .t1))))) && liveDiffer (ids (tableOf (drop (c .before .before .before .before .before .loop .i + 1) (c .before .before .before .before .before .before .args .t1)))))
 turned c = c .before .before .before .before .before .loop .inv .1 ∙ differ-turn (c .before .before .before .before .before .before .args .t1) (c .before .before .before .before .before .loop .i) (search needs)
 
-inner : (c : tie.After-same2 Inv-loop2 μ-loop2 Inv-loop μ-loop) → liveDiffer (ids (tableOf (c .before .before .before .before .before .before .before .before .before .before .before .before .before .args .t1))) ≡ ((not (c .same2 .result) && unheld (toZ w32 (ofZ w32 (getD (c .before .before .before .before .before .before .before .before .before .before .before .before .before .args .t1) (c .before .before .before .before .before .before .before .before .before .before .before .before .loop .i) blank .id .0))) (drop (c .before .before .before .before .before .loop2 .j + 1) (ids (tableOf (c .before .before .before .before .before .before .before .before .before .before .before .before .before .args .t1))))) && liveDiffer (drop (c .before .before .before .before .before .before .before .before .before .before .before .before .loop .i + 1) (ids (tableOf (c .before .before .before .before .before .before .before .before .before .before .before .before .before .args .t1)))))
+inner : (c : tie.After-same2 Inv-loop2 μ-loop2 Inv-loop μ-loop) → liveDiffer (ids (tableOf (c .before .before .before .before .before .before .before .before .before .before .before .before .before .args .t1))) ≡ ((not (c .same2 .result) && unheld (toZ w32 (ofZ w32 (getD (c .before .before .before .before .before .before .before .before .before .before .before .before .before .args .t1) (c .before .before .before .before .before .before .before .before .before .before .before .before .loop .i) blank .id .0))) (ids (tableOf (drop (c .before .before .before .before .before .loop2 .j + 1) (c .before .before .before .before .before .before .before .before .before .before .before .before .before .args .t1))))) && liveDiffer (ids (tableOf (drop (c .before .before .before .before .before .before .before .before .before .before .before .before .loop .i + 1) (c .before .before .before .before .before .before .before .before .before .before .before .before .before .args .t1)))))
 inner c =
     let t = c .before .before .before .before .before .before .before .before .before .before .before .before .before .args .t1 in
     let i = c .before .before .before .before .before .before .before .before .before .before .before .before .loop .i in
@@ -48,7 +48,7 @@ inner c =
     let w = getD t j blank .id .0 in
     let g : SFits w32 w = search needs in
     let e : c .same2 .result ≡ eqZ v w = c .same2 .ensures ∙ ap (eqZ v) (toZ-ofZ w32 w g) in
-    c .before .before .before .before .before .loop2 .inv .2 ∙ ap (λ b. b && liveDiffer (drop (i + 1) (ids (tableOf t)))) (unheld-turn t j v (search needs) ∙ ap (λ b. not b && unheld v (drop (j + 1) (ids (tableOf t)))) (sym e))
+    c .before .before .before .before .before .loop2 .inv .2 ∙ ap (λ b. b && liveDiffer (ids (tableOf (drop (i + 1) t)))) (unheld-turn t j v (search needs) ∙ ap (λ b. not b && unheld v (ids (tableOf (drop (j + 1) t)))) (sym e))
 
 loop-holds : tie.Need-loop-holds Inv-loop2 μ-loop2 Inv-loop μ-loop
 loop-holds c = search needs
@@ -70,8 +70,8 @@ loop2-holds c =
     let t = c .before .before .before .before .before .before .before .args .t1 in
     let i = c .before .before .before .before .before .before .loop .i in
     let v = getD t i blank .id .0 in
-    let l = ids (tableOf t) in
-    (search needs, search needs, rw (v-is (c .before)) (turned (c .before) ∙ alive (drop (i + 1) l) v (liveDiffer (drop (i + 1) l)) (sym (same-is (c .before)) ∙ not-true (c .before .same .result) (c .if1 .taken))))
+    let l = ids (tableOf (drop (i + 1) t)) in
+    (search needs, search needs, rw (v-is (c .before)) (turned (c .before) ∙ alive l v (liveDiffer l) (sym (same-is (c .before)) ∙ not-true (c .before .same .result) (c .if1 .taken))))
 
 loop-less : tie.Need-loop-less Inv-loop2 μ-loop2 Inv-loop μ-loop
 loop-less c = search needs
@@ -81,7 +81,7 @@ loop-again c =
     let t = c .before .before .before .before .before .before .before .before .before .args .t1 in
     let i = c .before .before .before .before .before .before .before .before .loop .i in
     let v = toZ w32 (ofZ w32 (getD t i blank .id .0)) in
-    (search needs, c .before .loop2 .inv .2 ∙ ap (λ b. b && liveDiffer (drop (i + 1) (ids (tableOf t)))) (unheld-over t (c .before .loop2 .j) v (search needs)))
+    (search needs, c .before .loop2 .inv .2 ∙ ap (λ b. b && liveDiffer (ids (tableOf (drop (i + 1) t)))) (unheld-over t (c .before .loop2 .j) v (search needs)))
 
 mul-o : tie.Need-mul-o Inv-loop2 μ-loop2 Inv-loop μ-loop
 mul-o c = search needs
@@ -112,8 +112,8 @@ loop-again-2 c =
     let t = c .before .before .before .before .before .before .before .args .t1 in
     let i = c .before .before .before .before .before .before .loop .i in
     let v = getD t i blank .id .0 in
-    let l = ids (tableOf t) in
-    (search needs, turned (c .before) ∙ dead (drop (i + 1) l) v (liveDiffer (drop (i + 1) l)) (sym (same-is (c .before)) ∙ not-false (c .before .same .result) (c .if1 .left)))
+    let l = ids (tableOf (drop (i + 1) t)) in
+    (search needs, turned (c .before) ∙ dead l v (liveDiffer l) (sym (same-is (c .before)) ∙ not-false (c .before .same .result) (c .if1 .left)))
 
 returns-2 : tie.Need-returns-2 Inv-loop2 μ-loop2 Inv-loop μ-loop
 returns-2 c = sym (c .before .loop .inv .1 ∙ differ-over (c .before .before .args .t1) (c .before .loop .i) (search needs))

@@ -2,34 +2,30 @@
 use borrow.Author.Needs.{needs}
 use mathlib.Core.Path.{_≡_, sym, ap, _∙_}
 use mathlib.Core.Bool.{_&&_}
-use Prim.Native.Nat.{_≤_, _<_, _-_, _+_}
+use Prim.Native.Nat.{_≤_, _-_, _+_}
 use native.Mathlib.Omega.{arith}
-use lib.ListN.{drop, getD, length, length-map, List·getD-map}
+use lib.ListN.{drop}
 use borrow.Author.Tests.{not-true, not-false}
-use Rattle.model.specs.Table.{goodPlace, goodRecords}
-use Rattle.panel.specs.Seen.{slotOf, tableOf, fieldsOf, blank}
-use Rattle.panel.proofs.Tables.{records-step, records-end}
+use Rattle.model.specs.Table.{goodRecords}
+use Rattle.panel.specs.Seen.{tableOf, fieldsOf}
+use Rattle.panel.proofs.Tables.{records-turn, records-over}
 use Rattle.panel.proofs.table_ok.Statement.{statement}
 use Rattle.panel.proofs.table_ok.Tie as tie
 
 abbrev Inv-loop : tie.InvT-loop
-Inv-loop setup t i₀ i = (i ≤ 16) × (goodRecords (fieldsOf setup) (setup .n) (tableOf t) ≡ goodRecords (fieldsOf setup) (setup .n - i) (drop i (tableOf t)))
+Inv-loop setup t i₀ i = (i ≤ 16) × (goodRecords (fieldsOf setup) (setup .n) (tableOf t) ≡ goodRecords (fieldsOf setup) (setup .n - i) (tableOf (drop i t)))
 
 abbrev μ-loop : tie.MeasureT-loop
 μ-loop setup t i₀ i = 16 - i
 
 step : (c : tie.After-place-ok Inv-loop μ-loop)
-    → goodRecords (fieldsOf (c .before .before .before .before .args .setup)) (c .before .before .before .before .args .setup .n) (tableOf (c .before .before .before .before .args .t2))
-    ≡ (c .place-ok .result && goodRecords (fieldsOf (c .before .before .before .before .args .setup)) (c .before .before .before .before .args .setup .n - (c .before .before .before .loop .i + 1)) (drop (c .before .before .before .loop .i + 1) (tableOf (c .before .before .before .before .args .t2))))
+    → (let a = c .before .before .before .before .args in let i = c .before .before .before .loop .i in
+    goodRecords (fieldsOf (a .setup)) (a .setup .n) (tableOf (a .t2)) ≡ (c .place-ok .result && goodRecords (fieldsOf (a .setup)) (a .setup .n - (i + 1)) (tableOf (drop (i + 1) (a .t2)))))
 step c =
     let u = c .before .before .before .before .args .setup in
     let t = c .before .before .before .before .args .t2 in
     let i = c .before .before .before .loop .i in
-    let len : length t ≡ 16 = search needs in
-    let inside : i < length (tableOf t) = simp (length-map, len) (search needs) in
-    let at : getD (tableOf t) i (slotOf blank) ≡ slotOf (getD t i blank) = List·getD-map slotOf t i blank in
-    let e : c .place-ok .result ≡ goodPlace (fieldsOf u) (u .n - i) (getD (tableOf t) i (slotOf blank)) = c .place-ok .ensures ∙ ap (goodPlace (fieldsOf u) (u .n - i)) (sym at) in
-    c .before .before .before .loop .inv .1 ∙ records-step (fieldsOf u) (u .n) (tableOf t) i (slotOf blank) inside ∙ ap (λ b. b && goodRecords (fieldsOf u) (u .n - (i + 1)) (drop (i + 1) (tableOf t))) (sym e)
+    c .before .before .before .loop .inv .1 ∙ records-turn (fieldsOf u) (u .n) t i (search needs) ∙ ap (λ b. b && goodRecords (fieldsOf u) (u .n - (i + 1)) (tableOf (drop (i + 1) t))) (sym (c .place-ok .ensures))
 
 loop-holds : tie.Need-loop-holds Inv-loop μ-loop
 loop-holds c =
@@ -62,8 +58,7 @@ returns-2 : tie.Need-returns-2 Inv-loop μ-loop
 returns-2 c =
     let u = c .before .before .args .setup in
     let t = c .before .before .args .t2 in
-    let len : length t ≡ 16 = search needs in
-    sym (c .before .loop .inv .1 ∙ records-end (fieldsOf u) (u .n) (tableOf t) (c .before .loop .i) (slotOf blank) (simp (length-map, len) (search needs)) (search needs))
+    sym (c .before .loop .inv .1 ∙ records-over (fieldsOf u) (u .n) t (c .before .loop .i) (search needs) (search needs))
 
 pub table-ok-spec : {M : Type 1} → statement M
 table-ok-spec =

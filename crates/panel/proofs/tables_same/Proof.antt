@@ -1,35 +1,30 @@
 -- `panel::tables_same` tells whether two tables are equal. The loop has passed i equal slots. Assumes nothing.
 use borrow.Author.Needs.{needs}
-use mathlib.Core.Path.{_≡_, sym, ap, ap₂, _∙_}
+use mathlib.Core.Path.{_≡_, sym, ap, _∙_}
 use mathlib.Core.Bool.{_&&_}
-use Prim.Native.Nat.{_≤_, _<_, _-_, _+_}
-use lib.ListN.{drop, getD, length, length-map, List·getD-map}
+use Prim.Native.Nat.{_≤_, _-_, _+_}
+use lib.ListN.{drop}
 use borrow.Author.Tests.{not-true, not-false}
-use Rattle.model.specs.Table.{eqSlot, eqTable}
-use Rattle.panel.specs.Seen.{slotOf, tableOf, blank}
-use Rattle.panel.proofs.Tables.{same-step, same-end}
+use Rattle.model.specs.Table.{eqTable}
+use Rattle.panel.specs.Seen.{tableOf}
+use Rattle.panel.proofs.Tables.{same-turn, same-over}
 use Rattle.panel.proofs.tables_same.Statement.{statement}
 use Rattle.panel.proofs.tables_same.Tie as tie
 
 abbrev Inv-loop : tie.InvT-loop
-Inv-loop a b i₀ i = (i ≤ 16) × (eqTable (tableOf a) (tableOf b) ≡ eqTable (drop i (tableOf a)) (drop i (tableOf b)))
+Inv-loop a b i₀ i = (i ≤ 16) × (eqTable (tableOf a) (tableOf b) ≡ eqTable (tableOf (drop i a)) (tableOf (drop i b)))
 
 abbrev μ-loop : tie.MeasureT-loop
 μ-loop a b i₀ i = 16 - i
 
 step : (c : tie.After-slots-same Inv-loop μ-loop)
-    → eqTable (tableOf (c .before .before .before .before .before .args .t1)) (tableOf (c .before .before .before .before .before .args .t2))
-    ≡ (c .slots-same .result && eqTable (drop (c .before .before .before .before .loop .i + 1) (tableOf (c .before .before .before .before .before .args .t1))) (drop (c .before .before .before .before .loop .i + 1) (tableOf (c .before .before .before .before .before .args .t2))))
+    → (let a = c .before .before .before .before .before .args in let i = c .before .before .before .before .loop .i in
+    eqTable (tableOf (a .t1)) (tableOf (a .t2)) ≡ (c .slots-same .result && eqTable (tableOf (drop (i + 1) (a .t1))) (tableOf (drop (i + 1) (a .t2)))))
 step c =
     let a = c .before .before .before .before .before .args .t1 in
     let b = c .before .before .before .before .before .args .t2 in
     let i = c .before .before .before .before .loop .i in
-    let len : length a ≡ 16 = search needs in
-    let len2 : length b ≡ 16 = search needs in
-    let inside : i < length (tableOf a) = simp (length-map, len) (search needs) in
-    let inside2 : i < length (tableOf b) = simp (length-map, len2) (search needs) in
-    let e : c .slots-same .result ≡ eqSlot (getD (tableOf a) i (slotOf blank)) (getD (tableOf b) i (slotOf blank)) = c .slots-same .ensures ∙ ap₂ eqSlot (sym (List·getD-map slotOf a i blank)) (sym (List·getD-map slotOf b i blank)) in
-    c .before .before .before .before .loop .inv .1 ∙ same-step (tableOf a) (tableOf b) i (slotOf blank) inside inside2 ∙ ap (λ z. z && eqTable (drop (i + 1) (tableOf a)) (drop (i + 1) (tableOf b))) (sym e)
+    c .before .before .before .before .loop .inv .1 ∙ same-turn a b i (search needs) (search needs) ∙ ap (λ z. z && eqTable (tableOf (drop (i + 1) a)) (tableOf (drop (i + 1) b))) (sym (c .slots-same .ensures))
 
 loop-holds : tie.Need-loop-holds Inv-loop μ-loop
 loop-holds c = search needs
@@ -62,12 +57,7 @@ loop-again : tie.Need-loop-again Inv-loop μ-loop
 loop-again c = (search needs, rw (not-false (c .before .slots-same .result) (c .if1 .left)) at (step (c .before)))
 
 returns-2 : tie.Need-returns-2 Inv-loop μ-loop
-returns-2 c =
-    let a = c .before .before .args .t1 in
-    let b = c .before .before .args .t2 in
-    let len : length a ≡ 16 = search needs in
-    let len2 : length b ≡ 16 = search needs in
-    sym (c .before .loop .inv .1 ∙ same-end (tableOf a) (tableOf b) (c .before .loop .i) (slotOf blank) (simp (length-map, len) (search needs)) (simp (length-map, len2) (search needs)))
+returns-2 c = sym (c .before .loop .inv .1 ∙ same-over (c .before .before .args .t1) (c .before .before .args .t2) (c .before .loop .i) (search needs) (search needs))
 
 pub tables-same-spec : {M : Type 1} → statement M
 tables-same-spec =

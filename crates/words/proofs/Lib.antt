@@ -1,0 +1,2 @@
+-- What the promise of `feed` settles.
+pub mod Unique
