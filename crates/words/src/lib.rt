@@ -171,9 +171,9 @@ fn say_byte(b: u8) {
 }
 
 pub fn say_bytes(bytes: &[u8]) {
-    let mut i: usize = 0;
-    while i < bytes.len() {
-        say_byte(bytes[i]);
-        i += 1;
+    let mut at: usize = 0;
+    while at < bytes.len() {
+        say_byte(bytes[at]);
+        at += 1;
     }
 }
