@@ -1,4 +1,4 @@
--- Demands 2 and 3 of the code: from the promises of `writer::write`, `reader::run` and `reader::ask` alone, in bytes. `Wrote` and `Ran` are those contracts' own equations. Cited by docs/PROMISES.md. Assumes nothing.
+-- Demands 2 and 3 of the code: from the promises of `writer::write`, `reader::run` and `reader::ask` alone, in bytes. `Wrote`, `Ran` and `Asked` are those contracts' own equations, which `wrote-is`, `ran-is` and `asked-is` check. Cited by docs/PROMISES.md. Assumes nothing.
 use mathlib.Core.Path.{_≡_, sym, ap, ap₂, _∙_, subst}
 use mathlib.Core.Bool.{true, cond}
 use mathlib.Core.List.{List}
@@ -7,6 +7,7 @@ use native.Mathlib.Omega.{arith}
 use lib.Dec.{T, eqb}
 use lib.IntN.{ℤ}
 use lib.ListN.{length, take, drop}
+use denote.Ref.{now}
 use Rattle.model.specs.Panel.{base}
 use Rattle.model.specs.Sending.{fewest}
 use Rattle.model.specs.Reader.{nothing, oneShown}
@@ -25,6 +26,7 @@ use Rattle.writer.specs.declared.WriterState.{WriterState}
 use Rattle.writer.specs.declared.Written.{Written}
 use Rattle.writer.specs.Seen as W
 use Rattle.writer.proofs.Demands.{answer-seen}
+use Rattle.writer.proofs.write.Reads as write
 use Rattle.runs.specs.declared.Mode.the-variants.{Following}
 use Rattle.runs.specs.declared.ReaderState.{ReaderState}
 use Rattle.runs.specs.declared.RunAnswer.{RunAnswer}
@@ -34,6 +36,8 @@ use Rattle.reader.specs.declared.SlotAnswer.{SlotAnswer}
 use Rattle.reader.specs.declared.SlotAnswer.the-variants.{Unknown}
 use Rattle.reader.specs.Seen.{askedFrom}
 use Rattle.reader.proofs.Promises.{run-state}
+use Rattle.reader.proofs.run.Reads as run
+use Rattle.reader.proofs.ask.Reads as ask
 
 -- What `write` promises of its answer and of the buffer afterwards.
 abbrev pub Wrote : WriterState → List ℤ → ℕ → List ℕ → Written → List ℕ → Type 0
@@ -42,6 +46,20 @@ Wrote s f at buf r after = (r ≡ W.writtenFrom (writeCall base (W.seen s) f at 
 -- What `run` promises of its answer.
 abbrev pub Ran : ReaderState → List ℕ → RunAnswer → Type 0
 Ran s bs q = q ≡ ranFrom (runCall base (R.seen s) bs)
+
+-- What `ask` promises of its answer.
+abbrev pub Asked : ReaderState → ℕ → SlotAnswer → Type 0
+Asked s k r = r ≡ askedFrom (askCall base (R.seen s) k)
+
+-- The contracts themselves, as the toolchain states them, say this of arguments, answer and buffer at exit.
+pub wrote-is : (κs : _) (a : _) (r : Written) (t : _) → write.Learnt κs a r t → Wrote (a .0) (now (a .1 .0)) (a .1 .1 .1 .0) (now (a .1 .1 .0)) r (now (t .1 .1 .0))
+wrote-is κs a r t e = e
+
+pub ran-is : (κs : _) (a : _) (q : RunAnswer) (t : _) → run.Learnt κs a q t → Ran (a .0) (now (a .1 .0)) q
+ran-is κs a q t e = e
+
+pub asked-is : (κs : _) (a : _) (r : SlotAnswer) (t : _) → ask.Learnt κs a r t → Asked (a .0) (a .1 .0 .0) r
+asked-is κs a r t e = e
 
 -- A reader of the same setup, table and current slot, following and with nothing pending.
 abbrev pub pupilOf : WriterState → ReaderState
@@ -88,5 +106,5 @@ none-fewer s f at buf r after w h bs q e m t =
 
 -- Demand 2: a well-formed reader that lost track, given any bytes, answers "unknown" for every slot of its panel, until a load.
 pub unknown : (s : ReaderState) (bs : List ℕ) (q : RunAnswer) (k : ℕ) (r : SlotAnswer) → readerGood base (R.seen s) ≡ true → Lost (R.modeOf (s .mode)) → k < s .setup .n
-    → Ran s bs q → r ≡ askedFrom (askCall base (R.seen (q .state)) k) → r ≡ Unknown
+    → Ran s bs q → Asked (q .state) k r → r ≡ Unknown
 unknown s bs q k r g l b e a = a ∙ ap (λ x. askedFrom (askCall base x k)) (run-state s bs q e) ∙ ap askedFrom (unknown-until-load base (R.seen s) bs k (holds _ g) l b)
