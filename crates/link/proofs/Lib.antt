@@ -1,2 +1,3 @@
--- The demands, of the contracts of `write`, `run` and `ask`.
+-- The demands, of the contracts of `write`, `run`, `load` and `ask`, and that what they ask can be met.
 pub mod Demands
+pub mod Cases

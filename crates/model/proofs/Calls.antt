@@ -226,14 +226,17 @@ image-steady p m c g =
     let y = both-left (a && b) _ x in
     record { shows = both-right a _ y; pends = both-right a _ y; differs = both-right (a && b) _ x; below = ltb→lt c (p .slots) (both-right (a && b && d) _ g); settles = tt }
 
+-- So an accepted load leaves a well-formed state.
+pub loaded-steady : (l : Layout) (s : ReaderState) (m : List ℤ) (c : ℕ) → T (isAccepted (loadVerdict l s m c))
+    → T (readerGood l (record { setup = s .setup; reader = settledAt (imageTable (panelOf l (s .setup)) m) c following }))
+loaded-steady l s m c h =
+    let a = load-accepted l s m c h in
+    state-reader l _ (record { setup = reader-state l s (a .good) .setup; reader = image-steady (panelOf l (s .setup)) m c (a .image) })
+
 -- A load keeps a reader's state well formed, whether it is accepted or refused.
 pub load-steady : (l : Layout) (s : ReaderState) (m : List ℤ) (c : ℕ) → T (readerGood l s) → T (readerGood l (loadCall l s m c .state))
 unfolding loadCall
-load-steady l s m c g =
-    let facts = reader-state l s g in
-    by-verdict (λ (a : ReaderState). T (readerGood l a)) (isAccepted (loadVerdict l s m c)) _ _
-    (λ h. state-reader l _ (record { setup = facts .setup; reader = image-steady (panelOf l (s .setup)) m c (load-accepted l s m c h .image) }))
-    g
+load-steady l s m c g = by-verdict (λ (a : ReaderState). T (readerGood l a)) (isAccepted (loadVerdict l s m c)) _ _ (loaded-steady l s m c) g
 
 -- A refused load gives back the state as it came in.
 pub load-refused : (l : Layout) (s : ReaderState) (m : List ℤ) (c : ℕ) → T (not (isAccepted (loadVerdict l s m c))) → loadCall l s m c .state ≡ s

@@ -1,9 +1,10 @@
--- What the promises of `ask` and `run` settle, for every answer that they allow: the number and the values of a question, and the state after a run. Cited by link. Assumes nothing.
+-- What the promises of `ask`, `run` and `load` settle, for every answer that they allow: the number and the values of a question, and the state after a run or a load. Cited by link. Assumes nothing.
 use mathlib.Core.Path.{_≡_, refl, ap, _∙_}
 use mathlib.Core.Bool.{cond}
 use mathlib.Core.List.{List, [], _∷_}
 use Prim.Native.Nat.{ℕ, zero, suc}
 use lib.Dec.{ltb}
+use lib.IntN.{ℤ}
 use lib.ListN.{getD}
 use Rattle.model.specs.Unique.{Gives}
 use Rattle.model.specs.Panel.{base, panelOf}
@@ -13,15 +14,16 @@ use Rattle.model.specs.Records.{eventsOf}
 use Rattle.model.specs.Reader as R
 use Rattle.model.specs.States.{readerGood}
 use Rattle.model.specs.Calls as C
-use Rattle.model.specs.Calls.{isAccepted, runVerdict, runCall, askedNumber, askedValues, askedIn, asked, askCall}
-use Rattle.model.proofs.Calls.{passed, by-verdict, events-steady, ask-refusal}
+use Rattle.model.specs.Calls.{isAccepted, runVerdict, runCall, loadVerdict, loadCall, askedNumber, askedValues, askedIn, asked, askCall}
+use Rattle.model.proofs.Calls.{passed, by-verdict, events-steady, loaded-steady, ask-refusal}
 use Rattle.panel.specs.Seen.{slotOf, tableOf}
 use Rattle.panel.specs.declared.Slot.{Slot}
 use Rattle.runs.specs.declared.ReaderState.{ReaderState}
 use Rattle.runs.specs.declared.RunAnswer.{RunAnswer}
 use Rattle.runs.specs.Seen.{seen, held, ranFrom}
 use Rattle.runs.proofs.Back.{state-back, good-seen}
-use Rattle.reader.specs.Seen.{askedFrom, answerSeen, refusalOf, valuesOf}
+use Rattle.reader.specs.declared.LoadAnswer.{LoadAnswer}
+use Rattle.reader.specs.Seen.{loadedFrom, askedFrom, answerSeen, refusalOf, valuesOf}
 use Rattle.reader.proofs.ask.Reads as ask
 
 -- ---- what is held of the model's answer is seen again
@@ -73,7 +75,7 @@ ask-values κs a r s e = ap askedValues (ask-answer κs a r s e)
 pub ask-refused : Gives ask.Learnt (λ κs r. refusalOf r) (λ κs a. cond (readerGood base (seen (a .0))) 0 2)
 ask-refused κs a r s e = ask-number κs a r s e ∙ ask-refusal base (seen (a .0)) (a .1 .0 .0)
 
--- ---- the state after a run
+-- ---- the state after a run, and after a load
 
 -- An accepted run leaves a good state and a refused one the state as it came in, so that what is held of either is seen again.
 back-run : (s : ReaderState) (bs : List ℕ) → seen (held (runCall base (seen s) bs .state)) ≡ runCall base (seen s) bs .state
@@ -86,3 +88,11 @@ back-run s bs =
 -- The state of any answer that `run` allows is the model's.
 pub run-state : (s : ReaderState) (bs : List ℕ) (q : RunAnswer) → q ≡ ranFrom (runCall base (seen s) bs) → seen (q .state) ≡ runCall base (seen s) bs .state
 run-state s bs q e = ap (λ (x : RunAnswer). seen (x .state)) e ∙ back-run s bs
+
+back-load : (s : ReaderState) (m : List ℤ) (c : ℕ) → seen (held (loadCall base (seen s) m c .state)) ≡ loadCall base (seen s) m c .state
+unfolding loadCall
+back-load s m c = by-verdict (λ x. seen (held x) ≡ x) (isAccepted (loadVerdict base (seen s) m c)) _ _ (λ h. good-seen (s .setup) _ (loaded-steady base (seen s) m c h)) (ap seen (state-back s))
+
+-- The state of any answer that `load` allows is the model's.
+pub load-state : (s : ReaderState) (m : List ℤ) (c : ℕ) (q : LoadAnswer) → q ≡ loadedFrom (loadCall base (seen s) m c) → seen (q .state) ≡ loadCall base (seen s) m c .state
+load-state s m c q e = ap (λ (x : LoadAnswer). seen (x .state)) e ∙ back-load s m c
