@@ -1,4 +1,10 @@
 // An example of calling the library from another crate: a hold-to-lift key, and when it may lift. README.md shows it. Reads no input.
+ghost use mathlib.Core.Path.{_≡_};
+ghost use Rattle.model.specs.Panel.{base};
+ghost use Rattle.model.specs.Calls.{askCall};
+ghost use Rattle.runs.specs.Seen.{seen};
+ghost use Rattle.reader.specs.Seen.{askedFrom};
+ghost use Rattle.hold_to_lift.specs.Key.{lifts};
 use panel::SlotNumber;
 use reader::ReaderState;
 use reader::SlotAnswer;
@@ -6,7 +12,9 @@ use records::Event;
 use writer::WriterState;
 
 // The load may rise only while a finger is known to hold the key. A reader that lost track answers Unknown, and that is not a finger.
-fn may_lift(state: ReaderState) -> bool {
+fn may_lift(state: ReaderState) -> bool
+    ensures { λ r. ⌜ r ≡ lifts (askedFrom (askCall base (seen state) 0)) ⌝ }
+{
     match reader::ask(state, SlotNumber(0)) {
         SlotAnswer::Contact(_) => true,
         SlotAnswer::Empty => false,

@@ -1,0 +1,2 @@
+-- What the key's promise is for.
+pub mod Safe

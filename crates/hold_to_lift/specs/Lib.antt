@@ -1,0 +1,2 @@
+-- When a hold-to-lift key lifts.
+pub mod Key
