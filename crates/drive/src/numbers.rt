@@ -27,6 +27,7 @@ fn nothing() -> Token {
     }
 }
 
+// What is no number, or none that 64 bits hold.
 fn spoiled() -> Token {
     Token {
         begun: true,
@@ -114,6 +115,7 @@ fn fits(kind: Kind, t: Token) -> bool {
     size_fits(kind, t.size)
 }
 
+// What is kept of a number that fits.
 fn bits(t: Token) -> u64 {
     let size = t.size;
     if !t.negative {
@@ -141,7 +143,7 @@ pub fn find(line: &[u8], from: usize, blank: bool) -> usize {
     line.len()
 }
 
-// How many numbers a line has, and whether they are a call's.
+// How many numbers a line has, and whether they are the call's.
 pub struct Found {
     pub count: usize,
     pub good: bool,
