@@ -84,13 +84,13 @@ pub fn shorten(call: &Call) -> String {
             }
             line
         }
-        Call::One { reader, .. } | Call::Load { reader, .. } | Call::Ask { reader, .. } => {
+        Call::One { reader, .. } | Call::Load { reader, .. } | Call::Ask { reader, .. } | Call::Good { reader } => {
             join(short_reader(&words, reader), &words[135..])
         }
         Call::Write { writer, .. } => {
             join(format!("{} {}", words[..7].join(" "), short_table(&writer.table)), &words[71..])
         }
-        Call::Fresh(_) | Call::New(_) | Call::Pod { .. } => long,
+        Call::Fresh(_) | Call::New(_) | Call::Start | Call::Pod { .. } => long,
     }
 }
 

@@ -11,7 +11,7 @@ const EACH_LENGTH: u64 = 80;
 const LONGEST: u64 = 5_000;
 
 /// Bytes that a script is made of.
-const SCRIPT_BYTES: &[u8] = b"0123456789-  \n#fnrolawp";
+const SCRIPT_BYTES: &[u8] = b"0123456789-  \n#fnrolagwsp";
 
 /// The `index`th input for a program; `None` for a name that is none.
 pub fn noise(program: &str, seed: u64, index: u64) -> Option<Vec<u8>> {

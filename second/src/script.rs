@@ -23,7 +23,9 @@ pub enum Call {
     Load { reader: Reader, current: SlotNumber, image: Vec<i32> },
     Ask { reader: Reader, slot: SlotNumber },
     Write { writer: Writer, position: u64, size: usize, frame: Vec<i32> },
-    Pod { pod: Pod, byte: u8 },
+    Good { reader: Reader },
+    Start,
+    Pod { pod: Pod, bytes: Vec<u8> },
 }
 
 /// The marks that a buffer holds before a `write`.
@@ -80,7 +82,11 @@ impl Call {
                 size: numbers.one::<usize>().filter(|size| *size <= LARGEST_BUFFER)?,
                 frame: numbers.rest()?,
             },
-            b'p' => Call::Pod { pod: numbers.pod()?, byte: numbers.one()? },
+            b'g' => Call::Good { reader: numbers.reader()? },
+            b's' => Call::Start,
+            b'p' => {
+                Call::Pod { pod: numbers.pod()?, bytes: numbers.rest().filter(|bytes: &Vec<u8>| !bytes.is_empty())? }
+            }
             _ => return None,
         };
         numbers.0.next().is_none().then_some(call)
@@ -95,6 +101,8 @@ impl Call {
             Call::Load { .. } => "load",
             Call::Ask { .. } => "ask",
             Call::Write { .. } => "write",
+            Call::Good { .. } => "good",
+            Call::Start => "start",
             Call::Pod { .. } => "pod",
         }
     }
@@ -128,9 +136,11 @@ impl Call {
                 line.put(size);
                 line.all(frame);
             }
-            Call::Pod { pod, byte } => {
+            Call::Good { reader } => line.reader(reader),
+            Call::Start => {}
+            Call::Pod { pod, bytes } => {
                 line.pod(pod);
-                line.put(byte);
+                line.all(bytes);
             }
         }
         line.0
@@ -192,13 +202,20 @@ impl Call {
                 line.put(":");
                 line.all(&buffer);
             }
-            Call::Pod { pod, byte } => {
+            Call::Good { reader } => line.put(reader.is_well_formed() as u8),
+            Call::Start => line.pod(&Pod::FRESH),
+            Call::Pod { pod, bytes } => {
                 let mut pod = *pod;
-                let report = pod.take(*byte);
-                line.pod(&pod);
-                match report {
-                    Ok(report) => line.put(words(report)),
-                    Err(refusal) => line.refused(refusal),
+                for (i, byte) in bytes.iter().enumerate() {
+                    if i > 0 {
+                        line.put("/");
+                    }
+                    let report = pod.take(*byte);
+                    line.pod(&pod);
+                    match report {
+                        Ok(report) => line.put(words(report)),
+                        Err(refusal) => line.refused(refusal),
+                    }
                 }
             }
         }
@@ -428,6 +445,7 @@ mod tests {
             "fresh 18446744073709551616 2 3 4".to_string(),
             "pod 0 0 0 0 0 0 256".to_string(),
             "pod 0 0 0 0 0 0".to_string(),
+            "start 0".to_string(),
             format!("write 1 9 9 9 0 0 {table}0 4097 0 0 0 0"),
             format!("write 1 9 9 9 0 0 {table}0 0 0 0 0 2147483648"),
             format!("ask 1 9 9 9 0 3 {table}{table}0"),
@@ -445,6 +463,8 @@ mod tests {
         assert_eq!(answer("new -0 2 3 4"), answer("new 0 2 3 4"));
         assert_eq!(answer_line(b"f\xff 1 2 3 4"), answer("fresh 1 2 3 4"));
         assert_eq!(answer("pod 0 0 0 0 0 0 1"), "0 0 0 0 0 0 down 1");
+        assert_eq!(answer("pod 1 255 0 0 0 0 16 245"), "0 0 0 0 0 0 bad report / 0 0 0 0 0 0 up 117");
+        assert_eq!(answer("start"), "0 0 0 0 0 0");
         let full = 12_000 - 134;
         let table = UNUSED.repeat(16);
         assert!(answer(&format!("r 1 9 9 9 0 0 {table}{table}{}", "0 ".repeat(full))).starts_with("6 "));

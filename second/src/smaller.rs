@@ -32,17 +32,37 @@ fn weight_of(call: &Call) -> (usize, usize, u64, usize) {
     let words = || line.split(' ').skip(1);
     let (size, slots) = match call {
         Call::Write { size, writer, .. } => (*size, writer.setup.slots),
-        Call::Run { reader, .. } | Call::One { reader, .. } | Call::Load { reader, .. } | Call::Ask { reader, .. } => {
-            (0, reader.setup.slots)
-        }
-        Call::Fresh(_) | Call::New(_) | Call::Pod { .. } => (0, 0),
+        Call::Run { reader, .. }
+        | Call::One { reader, .. }
+        | Call::Load { reader, .. }
+        | Call::Ask { reader, .. }
+        | Call::Good { reader } => (0, reader.setup.slots),
+        Call::Fresh(_) | Call::New(_) | Call::Start | Call::Pod { .. } => (0, 0),
     };
     (words().count() + size, words().filter(|word| !matches!(*word, "0" | "-1")).count(), slots, line.len())
 }
 
 fn candidates(call: &Call, give: &mut dyn FnMut(Call)) {
     match call {
-        Call::Fresh(_) | Call::New(_) | Call::Pod { .. } => {}
+        Call::Fresh(_) | Call::New(_) | Call::Start => {}
+        Call::Pod { pod, bytes } => {
+            // One byte at least; the first may be left out where the state after it is given instead.
+            let mut after = *pod;
+            if bytes.len() > 1 && after.take(bytes[0]).is_ok() {
+                give(Call::Pod { pod: after, bytes: bytes[1..].to_vec() });
+            }
+            for part in parts(bytes.len(), 1).into_iter().filter(|part| part.len() < bytes.len()) {
+                let mut bytes = bytes.clone();
+                bytes.drain(part);
+                give(Call::Pod { pod: *pod, bytes });
+            }
+        }
+        Call::Good { reader } => {
+            smaller_readers(reader, &mut |reader| give(Call::Good { reader }));
+            for s in slots_of(&reader.setup) {
+                give(Call::Good { reader: reader_without(reader, s) });
+            }
+        }
         Call::Run { reader, bytes } => {
             smaller_readers(reader, &mut |reader| give(Call::Run { reader, bytes: bytes.clone() }));
             for s in slots_of(&reader.setup) {

@@ -47,6 +47,8 @@ const EXPECTED: &[&str] = &[
     "ask refused 2",
     "ask: unknown while dropped",
     "ask: unknown while stale",
+    "good 0",
+    "good 1",
     "write 0",
     "write 2",
     "write 3",
@@ -58,6 +60,7 @@ const EXPECTED: &[&str] = &[
     "write: no room, a need",
     "write: no room, no need",
     "write: the counter wrapped",
+    "start 0",
     "pod more",
     "pod down",
     "pod up",
@@ -113,6 +116,24 @@ impl Tally {
         *self.seen.entry(what).or_default() += 1;
     }
 
+    /// The answer to one byte of a pod.
+    fn count_step(&mut self, step: &str) {
+        let said: Vec<&str> = step.split(' ').collect();
+        let words = said.get(6..).unwrap_or(&[]);
+        let kept = match words.first() {
+            Some(&("bad" | "stick" | "refused")) => 2,
+            _ => 1,
+        };
+        self.note(format!("pod {}", words[..kept.min(words.len())].join(" ")));
+        if let ["relative", _, _, dx, dy] = words {
+            for (name, moved) in [("dx", dx), ("dy", dy)] {
+                if *moved == "-128" {
+                    self.note(format!("pod: {name} -128"));
+                }
+            }
+        }
+    }
+
     fn count(&mut self, line: &str, answer: &str) {
         if answer == BAD_LINE {
             return self.note(answer.to_string());
@@ -127,26 +148,14 @@ impl Tally {
             b'l' => "load",
             b'a' => "ask",
             b'w' => "write",
+            b'g' => "good",
+            b's' => "start",
             _ => "pod",
         };
         match name {
             "ask" if said[0] == "contact" => self.note("ask contact".to_string()),
             "ask" => self.note(format!("ask {answer}")),
-            "pod" => {
-                let words = said.get(6..).unwrap_or(&[]);
-                let kept = match words.first() {
-                    Some(&("bad" | "stick" | "refused")) => 2,
-                    _ => 1,
-                };
-                self.note(format!("pod {}", words[..kept.min(words.len())].join(" ")));
-                if let ["relative", _, _, dx, dy] = words {
-                    for (name, moved) in [("dx", dx), ("dy", dy)] {
-                        if *moved == "-128" {
-                            self.note(format!("pod: {name} -128"));
-                        }
-                    }
-                }
-            }
+            "pod" => answer.split(" / ").for_each(|step| self.count_step(step)),
             _ => self.note(format!("{name} {}", said[0])),
         }
         let mode = |word: &str| MODES[word.parse::<usize>().unwrap_or(0).min(2)];

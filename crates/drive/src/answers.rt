@@ -8,6 +8,7 @@ use crate::calls::WRITER;
 use crate::say;
 use crate::states;
 use panel::SlotNumber;
+use pod::PodState;
 use reader::ReaderState;
 use reader::RunAnswer;
 use writer::WriterState;
@@ -112,13 +113,35 @@ fn write(ns: &[u64]) {
     write_into(ns, &frame[..count], &mut buf[..size]);
 }
 
-fn pod_byte(ns: &[u64]) {
-    let a = pod::step(states::pod_of(ns), states::byte(ns, POD));
-    let state = a.state;
+fn good(ns: &[u64]) {
+    if reader::state_ok(states::reader_of(ns)) {
+        stream::say(b"1");
+    } else {
+        stream::say(b"0");
+    }
+}
+
+// The answer to one byte; between two of them stands a stroke.
+fn step(state: PodState, byte: u8, first: bool) -> PodState {
+    if !first {
+        stream::say(b" / ");
+    }
+    let a = pod::step(state, byte);
+    let next = a.state;
     let report = a.report;
-    say::pod_state(state);
+    say::pod_state(next);
     stream::say(b" ");
     words::say_report(report);
+    next
+}
+
+fn pod_bytes(ns: &[u64]) {
+    let mut state = states::pod_of(ns);
+    let mut i = POD;
+    while i < ns.len() {
+        state = step(state, states::byte(ns, i), i == POD);
+        i += 1;
+    }
 }
 
 pub fn answer(call: Call, ns: &[u64]) {
@@ -129,8 +152,10 @@ pub fn answer(call: Call, ns: &[u64]) {
         Call::One => one(ns),
         Call::Load => load(ns),
         Call::Ask => ask(ns),
+        Call::Good => good(ns),
         Call::Write => write(ns),
-        Call::Pod => pod_byte(ns),
+        Call::Start => say::pod_state(PodState::fresh()),
+        Call::Pod => pod_bytes(ns),
         Call::None => {}
     }
 }

@@ -7,7 +7,9 @@ pub enum Call {
     One,
     Load,
     Ask,
+    Good,
     Write,
+    Start,
     Pod,
     None,
 }
@@ -46,7 +48,9 @@ pub fn call_of(letter: u8) -> Call {
         b'o' => Call::One,
         b'l' => Call::Load,
         b'a' => Call::Ask,
+        b'g' => Call::Good,
         b'w' => Call::Write,
+        b's' => Call::Start,
         b'p' => Call::Pod,
         _ => Call::None,
     }
@@ -117,8 +121,7 @@ fn setup_kind(i: usize) -> Kind {
 fn pod_kind(i: usize) -> Kind {
     match i {
         0 => Kind::Bits64,
-        1..=6 => Kind::Bits8,
-        _ => Kind::None,
+        _ => Kind::Bits8,
     }
 }
 
@@ -128,6 +131,7 @@ pub fn kind_at(call: Call, i: usize) -> Kind {
         Call::Fresh => setup_kind(i),
         Call::New => setup_kind(i),
         Call::Write => write_kind(i),
+        Call::Start => Kind::None,
         Call::Pod => pod_kind(i),
         Call::None => Kind::None,
         _ => reader_kind(call, i),
@@ -143,7 +147,9 @@ pub fn fewest(call: Call) -> usize {
         Call::One => READER + 3,
         Call::Load => READER + 1,
         Call::Ask => READER + 1,
+        Call::Good => READER,
         Call::Write => WRITER + 2,
+        Call::Start => 0,
         Call::Pod => POD + 1,
         Call::None => 1,
     }

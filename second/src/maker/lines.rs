@@ -5,17 +5,22 @@ use crate::script::{Call, LONGEST_LINE, MOST_NUMBERS};
 
 impl Maker {
     pub(super) fn bad_line(&mut self) -> String {
-        let call = self.call();
+        let call = match self.call() {
+            // It has no number to leave out or to change.
+            Call::Start => Call::Fresh(self.setup()),
+            call => call,
+        };
         let line = call.line();
         // The comment is to say what is wrong with the line, not with the call that it was made of.
         self.tags.clear();
         let mut words: Vec<String> = line.split(' ').map(str::to_string).collect();
         let fixed = match call {
+            Call::Start => 0,
             Call::Fresh(_) | Call::New(_) => 4,
             Call::Pod { .. } => 7,
             Call::Ask { .. } | Call::Load { .. } => 135,
             Call::One { .. } => 137,
-            Call::Run { .. } => 134,
+            Call::Run { .. } | Call::Good { .. } => 134,
             Call::Write { .. } => 72,
         };
         match self.random.below(6) {
@@ -29,8 +34,8 @@ impl Maker {
             }
             2 => {
                 self.tag("line: too many numbers");
-                // These three take any count.
-                if matches!(call, Call::Run { .. } | Call::Load { .. } | Call::Write { .. }) {
+                // These four take any count.
+                if matches!(call, Call::Run { .. } | Call::Load { .. } | Call::Write { .. } | Call::Pod { .. }) {
                     let setup = self.setup();
                     words = Call::Fresh(setup).line().split(' ').map(str::to_string).collect();
                 }
@@ -85,7 +90,7 @@ impl Maker {
             (Call::Run { .. }, _) if last > 134 => (last, self.random.pick(&["256", "-1"])),
             (Call::Load { .. }, _) if last > 135 => (last, self.random.pick(&[TWO_31, "-2147483649"])),
             (Call::Ask { .. } | Call::Load { .. }, _) => (135, "-1"),
-            (Call::Run { .. }, _) => (1, "-1"),
+            (Call::Run { .. } | Call::Good { .. } | Call::Start, _) => (1, "-1"),
         };
         words[place] = number.to_string();
     }

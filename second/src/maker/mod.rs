@@ -83,6 +83,9 @@ pub const TRIED: &[&str] = &[
     "load: current slot",
     "ask: below n",
     "ask: n or more",
+    "good: a well-formed one",
+    "good: a broken one",
+    "pod: several bytes",
     "pod: first byte",
     "pod: byte inside a report",
     "pod: held too many",
@@ -153,7 +156,9 @@ impl Maker {
             36..=52 => self.run(),
             53..=63 => self.one(),
             64..=74 => self.load(),
-            75..=80 => self.ask(),
+            75..=79 => self.ask(),
+            80..=81 => self.good(),
+            82 => Call::Start,
             _ => self.pod(),
         }
     }
@@ -196,7 +201,8 @@ mod tests {
                     Call::Run { reader, .. }
                     | Call::One { reader, .. }
                     | Call::Load { reader, .. }
-                    | Call::Ask { reader, .. } => reader.is_well_formed(),
+                    | Call::Ask { reader, .. }
+                    | Call::Good { reader } => reader.is_well_formed(),
                     _ => panic!("{comment}"),
                 };
                 assert!(!good, "{comment}\n{line}");

@@ -10,9 +10,22 @@ impl Maker {
             return self.broken_pod();
         }
         let pod = self.pod;
-        let byte = self.pod_byte(pod);
-        self.pod.take(byte).expect("a kept pod is well formed");
-        Call::Pod { pod, byte }
+        let mut bytes = Vec::new();
+        for _ in 0..self.pod_bytes() {
+            let byte = self.pod_byte(self.pod);
+            self.pod.take(byte).expect("a kept pod is well formed");
+            bytes.push(byte);
+        }
+        Call::Pod { pod, bytes }
+    }
+
+    /// How many bytes a call has: mostly one, so that most states are ones that an answer ended in.
+    fn pod_bytes(&mut self) -> u64 {
+        if !self.random.once_in(4) {
+            return 1;
+        }
+        self.tag("pod: several bytes");
+        self.random.from_to(2, 12)
     }
 
     /// First bytes in turn, or one that opens a longer report; inside a report what fits its place, so that not every one is bad.
@@ -77,6 +90,7 @@ impl Maker {
                 }
             }
         }
-        Call::Pod { pod, byte: self.random.word() as u8 }
+        let bytes = (0..self.pod_bytes()).map(|_| self.random.word() as u8).collect();
+        Call::Pod { pod, bytes }
     }
 }

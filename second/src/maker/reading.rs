@@ -264,6 +264,17 @@ impl Maker {
         }
     }
 
+    pub(super) fn good(&mut self) -> Call {
+        let (_, mut reader) = self.reader();
+        if self.random.once_in(2) {
+            self.tag("good: a broken one");
+            self.break_reader(&mut reader);
+        } else {
+            self.tag("good: a well-formed one");
+        }
+        Call::Good { reader }
+    }
+
     pub(super) fn ask(&mut self) -> Call {
         let (_, mut reader) = self.reader();
         let n = reader.setup.slots;
