@@ -1,7 +1,7 @@
 //! Panel and pod events, written from document 01 alone: what the proved library is compared with.
 //!
 //! The rules: [`refusal`], [`table`], [`events`], [`reader`], [`writer`], [`pod`].
-//! The programs: [`programs`]. The comparison: [`script`], [`maker`], [`random`], [`noise`], [`smaller`], [`tally`].
+//! The programs: [`streams`], [`programs`]. The comparison: [`script`], [`maker`], [`random`], [`noise`], [`smaller`], [`tally`].
 //! Texts for people: [`records`], [`brief`].
 
 pub mod brief;
@@ -16,6 +16,9 @@ pub mod records;
 pub mod refusal;
 pub mod script;
 pub mod smaller;
+pub mod streams;
 pub mod table;
 pub mod tally;
+#[cfg(test)]
+mod trial;
 pub mod writer;

@@ -1,15 +1,20 @@
 //! The program `second`: each mode is a filter or a report; see README.md beside Cargo.toml.
 
-use std::fs;
+use std::borrow::Cow;
+use std::ffi::OsString;
+use std::fs::{self, File};
 use std::io::{self, Read, Write};
+use std::os::fd::AsFd;
+use std::os::unix::ffi::OsStrExt;
 use std::process::ExitCode;
 
-use second::script::{answer_all, answer_line, is_passed_over, Call};
+use second::script::{answer_line, is_passed_over, Call};
+use second::streams::{text, Status};
 use second::tally::Tally;
 use second::{brief, maker, noise, programs, records, smaller};
 
 const USAGE: &str = "\
-second answer < SCRIPT                 the answers of a script of docs/DRIVE.md
+second answer < SCRIPT                 the answers of a script of docs/DRIVE.md, as drive gives them
 second script ROUNDS SEED              a random script of that many calls
 second tally SCRIPT ANSWERS            how often each answer occurred; fails where one never did
 second differ SCRIPT ANSWERS           the first call that is answered otherwise here; fails where there is one
@@ -46,49 +51,73 @@ impl From<String> for Failure {
 }
 
 fn main() -> ExitCode {
-    let arguments: Vec<String> = std::env::args().skip(1).collect();
-    let words: Vec<&str> = arguments.iter().map(String::as_str).collect();
-    let mut out = io::BufWriter::new(io::stdout().lock());
-    let done = run(&words, &mut out).and_then(|()| Ok(out.flush()?));
-    match done {
-        Ok(()) => ExitCode::SUCCESS,
-        Err(Failure::Differs) => ExitCode::FAILURE,
+    let arguments: Vec<OsString> = std::env::args_os().skip(1).collect();
+    let texts: Vec<Cow<str>> = arguments.iter().map(|argument| argument.to_string_lossy()).collect();
+    let words: Vec<&str> = texts.iter().map(|text| &**text).collect();
+    let status = match words[..] {
+        [program @ ("show_table" | "write_frames" | "show_pod" | "drive"), _, ..] => too_many(program, &arguments[1]),
+        _ => run(&words).unwrap_or_else(status_of),
+    };
+    ExitCode::from(status.number())
+}
+
+/// A program reads nothing but its standard input.
+fn too_many(program: &str, argument: &OsString) -> Status {
+    let before = format!("{program}: no argument is taken, and '");
+    let after = format!("' is one; a file is given as {program} < FILE\n");
+    say(&[before.as_bytes(), argument.as_bytes(), after.as_bytes()].concat());
+    Status::Failed
+}
+
+fn status_of(failure: Failure) -> Status {
+    let (words, status) = match failure {
+        Failure::Differs => return Status::Refused,
         // Whoever read us has seen enough, as in `second script 9 1 | head`.
-        Err(Failure::Io(error)) if error.kind() == io::ErrorKind::BrokenPipe => ExitCode::SUCCESS,
-        Err(Failure::Io(error)) => fail(&error.to_string()),
-        Err(Failure::Words(words)) => fail(&words),
-        Err(Failure::Usage) => {
-            eprintln!("{USAGE}");
-            ExitCode::from(2)
+        Failure::Io(error) if error.kind() == io::ErrorKind::BrokenPipe => return Status::Accepted,
+        Failure::Io(error) => (format!("second: {}", text(&error)), Status::Failed),
+        Failure::Words(words) => (format!("second: {words}"), Status::Refused),
+        Failure::Usage => (USAGE.to_string(), Status::Failed),
+    };
+    say(format!("{words}\n").as_bytes());
+    status
+}
+
+/// Where nobody can be told, the status still tells.
+fn say(words: &[u8]) {
+    let _ = io::stderr().write_all(words);
+}
+
+fn run(words: &[&str]) -> Result<Status, Failure> {
+    match words {
+        ["show_table"] => filter(programs::show_table),
+        ["write_frames"] => filter(programs::write_frames),
+        ["show_pod"] => filter(programs::show_pod),
+        ["drive"] | ["answer"] => filter(programs::drive),
+        ["records", "encode"] => filter(records::encode),
+        ["records", "decode"] => filter(|input, out, err| records::decode(input, out, err, false)),
+        ["records", "decode", "frames"] => filter(|input, out, err| records::decode(input, out, err, true)),
+        _ => {
+            let mut out = io::BufWriter::new(io::stdout().lock());
+            print(words, &mut out)?;
+            out.flush()?;
+            Ok(Status::Accepted)
         }
     }
 }
 
-fn fail(words: &str) -> ExitCode {
-    eprintln!("second: {words}");
-    ExitCode::FAILURE
+fn filter(program: impl Fn(File, File, File) -> Status) -> Result<Status, Failure> {
+    Ok(program(plain(io::stdin())?, plain(io::stdout())?, plain(io::stderr())?))
 }
 
-fn run(words: &[&str], out: &mut impl Write) -> Result<(), Failure> {
+/// A standard stream as a plain file: Rust's own handles take one that is not open for reading as ended, and write out line by line.
+fn plain(stream: impl AsFd) -> io::Result<File> {
+    Ok(File::from(stream.as_fd().try_clone_to_owned()?))
+}
+
+fn print(words: &[&str], out: &mut impl Write) -> Result<(), Failure> {
     match words {
-        ["answer"] | ["drive"] => answer_all(io::stdin().lock(), out)?,
-        ["script", rounds, seed] => {
-            let rounds = number(rounds)?;
-            writeln!(out, "# second script {rounds} {seed}")?;
-            let mut maker = maker::Maker::new(number(seed)?);
-            for _ in 0..rounds {
-                out.write_all(maker.lines().as_bytes())?;
-            }
-        }
-        ["tally", script, answers] => {
-            let tally = Tally::of(&file(script)?, &file(answers)?)?;
-            writeln!(out, "{}", tally.report())?;
-            let missing = tally.missing();
-            if !missing.is_empty() {
-                out.flush()?;
-                return Err(Failure::Words(format!("never seen: {}", missing.join("; "))));
-            }
-        }
+        ["script", rounds, seed] => script(number(rounds)?, number(seed)?, out)?,
+        ["tally", script, answers] => tally(&file(script)?, &file(answers)?, out)?,
         ["differ", script, answers] => differ(&file(script)?, &file(answers)?, out)?,
         ["smaller"] => {
             let script = input()?;
@@ -111,19 +140,30 @@ fn run(words: &[&str], out: &mut impl Write) -> Result<(), Failure> {
             let script = brief::expand(CASES).map_err(|error| format!("cases.txt: {error}"))?;
             out.write_all(script.as_bytes())?;
         }
-        ["records", "encode"] => out.write_all(&records::encode(&input()?)?)?,
-        ["records", "decode"] => out.write_all(records::decode(&bytes()?, false).as_bytes())?,
-        ["records", "decode", "frames"] => out.write_all(records::decode(&bytes()?, true).as_bytes())?,
         ["noise", program, seed, index] => {
             let bytes = noise::noise(program, number(seed)?, number(index)?);
             out.write_all(&bytes.ok_or_else(|| format!("no program {program}"))?)?;
         }
-        ["show_table"] => programs::show_table(io::stdin().lock(), out, io::stderr().lock())?,
-        ["write_frames"] => programs::write_frames(io::stdin().lock(), out, io::stderr().lock())?,
-        ["show_pod"] => programs::show_pod(io::stdin().lock(), out)?,
         _ => return Err(Failure::Usage),
     }
     Ok(())
+}
+
+fn script(rounds: u64, seed: u64, out: &mut impl Write) -> io::Result<()> {
+    writeln!(out, "# second script {rounds} {seed}")?;
+    let mut maker = maker::Maker::new(seed);
+    (0..rounds).try_for_each(|_| out.write_all(maker.lines().as_bytes()))
+}
+
+fn tally(script: &str, answers: &str, out: &mut impl Write) -> Result<(), Failure> {
+    let tally = Tally::of(script, answers)?;
+    writeln!(out, "{}", tally.report())?;
+    let missing = tally.missing();
+    if missing.is_empty() {
+        return Ok(());
+    }
+    out.flush()?;
+    Err(Failure::Words(format!("never seen: {}", missing.join("; "))))
 }
 
 /// The first call whose answer in the file is not ours: its number, comment, line, and both answers, one a line.
@@ -163,11 +203,7 @@ fn file(name: &str) -> Result<String, Failure> {
 }
 
 fn input() -> Result<String, Failure> {
-    String::from_utf8(bytes()?).map_err(|error| Failure::Words(format!("standard input is no text: {error}")))
-}
-
-fn bytes() -> Result<Vec<u8>, Failure> {
     let mut bytes = Vec::new();
     io::stdin().lock().read_to_end(&mut bytes)?;
-    Ok(bytes)
+    String::from_utf8(bytes).map_err(|error| Failure::Words(format!("standard input is no text: {error}")))
 }

@@ -1,4 +1,4 @@
-//! The three programs' own formats: `show_table`, `write_frames` and `show_pod` as filters.
+//! The programs of docs/PROGRAMS.md as filters: `show_table`, `write_frames`, `show_pod` and `drive`.
 
 use std::io::{self, Read, Write};
 
@@ -6,189 +6,267 @@ use crate::events::{Event, RECORD};
 use crate::pod::Pod;
 use crate::reader::{Mode, Reader};
 use crate::refusal::Refusal;
-use crate::script::words;
-use crate::table::Setup;
+use crate::script::{is_passed_over, Call, InWords, BAD_LINE, LONGEST_LINE};
+use crate::streams::{Came, Lines, Status, Streams, Words};
+use crate::table::{Setup, LARGEST_POSITION, LARGEST_PRESSURE, SLOTS};
 use crate::writer::Writer;
 
+/// The setup's bytes.
 const HEADER: usize = 16;
 /// The most that one frame can write.
 const LARGEST_FRAME: usize = 640;
 
-/// The setup at the front of an input; `None` where it is too short to hold one.
+/// The setup, if the bytes are as many as it takes.
 fn header(bytes: &[u8]) -> Option<Setup> {
-    let number = |i: usize| {
-        let place = bytes.get(4 * i..4 * i + 4)?;
-        Some(u32::from_le_bytes(place.try_into().ok()?))
-    };
+    let numbers: [u8; HEADER] = bytes.try_into().ok()?;
+    let number = |i: usize| u32::from_le_bytes([numbers[i], numbers[i + 1], numbers[i + 2], numbers[i + 3]]);
     Some(Setup {
-        slots: u64::from(number(0)?),
-        largest_x: number(1)?,
-        largest_y: number(2)?,
-        largest_pressure: number(3)?,
+        slots: u64::from(number(0)),
+        largest_x: number(4),
+        largest_y: number(8),
+        largest_pressure: number(12),
     })
 }
 
-pub fn show_table(mut input: impl Read, mut out: impl Write, mut err: impl Write) -> io::Result<()> {
-    let mut bytes = Vec::new();
-    // What was read before a failure stays in `bytes`.
-    let failed = input.read_to_end(&mut bytes).err();
-    if let Some(failure) = &failed {
-        writeln!(err, "a read failed, taken as SYN_DROPPED: {failure}")?;
+/// What is wrong with a setup, a line for each number out of its range; none for a good one.
+fn wrong_numbers(setup: &Setup) -> Vec<String> {
+    [
+        ("n", setup.slots, SLOTS as u64),
+        ("the largest x", u64::from(setup.largest_x), u64::from(LARGEST_POSITION)),
+        ("the largest y", u64::from(setup.largest_y), u64::from(LARGEST_POSITION)),
+        ("the largest pressure", u64::from(setup.largest_pressure), u64::from(LARGEST_PRESSURE)),
+    ]
+    .iter()
+    .filter(|(_, number, largest)| !(1..=*largest).contains(number))
+    .map(|(name, number, largest)| format!("{name} is {number}, and must be 1 to {largest}"))
+    .collect()
+}
+
+/// Takes the setup from the front of the input; a refused one comes as what was wrong with it.
+fn setup<R: Read, W: Write, E: Write>(streams: &mut Streams<R, W, E>) -> io::Result<Result<Setup, Vec<String>>> {
+    // Where the input ended or was lost before, too few bytes are held.
+    streams.hold(HEADER)?;
+    let held = streams.input.held();
+    let Some(setup) = header(&held[..held.len().min(HEADER)]) else {
+        return Ok(Err(vec![format!("the setup is cut: {} of {HEADER} bytes", held.len())]));
+    };
+    streams.input.take(HEADER);
+    let wrong = wrong_numbers(&setup);
+    Ok(if wrong.is_empty() { Ok(setup) } else { Err(wrong) })
+}
+
+fn refuse_setup<E: Write>(words: &mut Words<E>, wrong: &[String]) {
+    words.at_least(Status::Refused);
+    for what in wrong {
+        words.say(what);
     }
-    match table_after(&bytes, failed.is_some()) {
-        Err(refusal) => writeln!(out, "refused {}", refusal.number())?,
-        Ok(reader) => {
-            let mode = match reader.mode {
-                Mode::Following => "following",
-                Mode::Dropped => "dropped",
-                Mode::Stale => "stale",
-            };
-            writeln!(out, "{mode} {}", reader.current.0)?;
-            if reader.mode == Mode::Following {
-                let used = &reader.shown[..reader.setup.slots as usize];
-                for (s, slot) in used.iter().enumerate() {
-                    writeln!(out, "{s} {} {} {} {}", slot.id.0, slot.x, slot.y, slot.pressure)?;
-                }
+}
+
+/// The table after the setup and the records of the input, or the one refusal.
+pub fn show_table(input: impl Read, out: impl Write, err: impl Write) -> Status {
+    let mut streams = Streams::new("show_table", input, out, err);
+    let done = read_records(&mut streams);
+    streams.end(done)
+}
+
+fn read_records<R: Read, W: Write, E: Write>(streams: &mut Streams<R, W, E>) -> io::Result<()> {
+    let setup = match setup(streams)? {
+        Ok(setup) => setup,
+        Err(wrong) => {
+            refused(streams, Refusal::Setup)?;
+            refuse_setup(&mut streams.words, &wrong);
+            return Ok(());
+        }
+    };
+    let mut reader = Reader::fresh(setup).expect("a setup without a wrong number is good");
+    let mut read = Followed::default();
+    let ended = streams.units(RECORD, |run, _, _| -> io::Result<()> {
+        read.run(&mut reader, run);
+        Ok(())
+    })?;
+    let cut = streams.input.held().len();
+    if ended == Came::Lost {
+        streams.words.say("input was lost, which counts as SYN_DROPPED");
+        reader.one(Event::DROPPED).expect(WELL_FORMED);
+    } else if cut > 0 {
+        refused(streams, Refusal::Ragged)?;
+        streams.words.say(&format!("the last record is cut: {cut} of {RECORD} bytes"));
+        return Ok(());
+    }
+    print_table(&reader, &mut streams.out)?;
+    if read.was_mostly_skipped() {
+        streams.out.flush()?;
+        streams.words.say(
+            "most records were skipped: Linux's struct input_event has 24 bytes, and only the last 8 are a record here",
+        );
+    }
+    Ok(())
+}
+
+const WELL_FORMED: &str = "a state that began fresh is well formed";
+
+/// The one line of a refusal, written before anything is said of it.
+fn refused<R: Read, W: Write, E: Write>(streams: &mut Streams<R, W, E>, refusal: Refusal) -> io::Result<()> {
+    streams.words.at_least(Status::Refused);
+    writeln!(streams.out, "refused {}", refusal.number())?;
+    streams.out.flush()
+}
+
+/// Counts over all records, for the hint.
+#[derive(Default)]
+struct Followed {
+    followed: u64,
+    skipped: u64,
+}
+
+impl Followed {
+    fn run(&mut self, reader: &mut Reader, records: &[u8]) {
+        let counts = reader.run(records).expect(WELL_FORMED);
+        self.followed += (records.len() / RECORD) as u64 - counts.ignored;
+        self.skipped += counts.skipped;
+    }
+
+    fn was_mostly_skipped(&self) -> bool {
+        self.followed >= 3 && 5 * self.skipped >= 3 * self.followed
+    }
+}
+
+fn print_table(reader: &Reader, out: &mut impl Write) -> io::Result<()> {
+    let mode = match reader.mode {
+        Mode::Following => "following",
+        Mode::Dropped => "dropped",
+        Mode::Stale => "stale",
+    };
+    writeln!(out, "{mode} {}", reader.current.0)?;
+    if reader.mode == Mode::Following {
+        let used = &reader.shown[..reader.setup.slots as usize];
+        for (s, slot) in used.iter().enumerate() {
+            writeln!(out, "{s} {} {} {} {}", slot.id.0, slot.x, slot.y, slot.pressure)?;
+        }
+    }
+    Ok(())
+}
+
+/// The setup and every record that the frames of the input are sent as.
+pub fn write_frames(input: impl Read, out: impl Write, err: impl Write) -> Status {
+    let mut streams = Streams::new("write_frames", input, out, err);
+    let done = send_frames(&mut streams);
+    streams.end(done)
+}
+
+fn send_frames<R: Read, W: Write, E: Write>(streams: &mut Streams<R, W, E>) -> io::Result<()> {
+    let setup = match setup(streams)? {
+        Ok(setup) => setup,
+        Err(wrong) => {
+            streams.words.line(&format!("refused {}", Refusal::Setup.number()));
+            refuse_setup(&mut streams.words, &wrong);
+            return Ok(());
+        }
+    };
+    for number in [setup.slots as u32, setup.largest_x, setup.largest_y, setup.largest_pressure] {
+        streams.out.write_all(&number.to_le_bytes())?;
+    }
+    let mut writer = Writer::fresh(setup).expect("a setup without a wrong number is good");
+    let size = 16 * setup.slots as usize;
+    let mut k = 1u64;
+    let ended = streams.units(size, |frames, out, words| -> io::Result<()> {
+        for frame in frames.chunks_exact(size) {
+            send_frame(&mut writer, frame, k, out, words)?;
+            k += 1;
+        }
+        Ok(())
+    })?;
+    if ended == Came::End && streams.input.held().is_empty() {
+        return Ok(());
+    }
+    if ended == Came::End {
+        refuse_frame(&mut streams.words, k, Refusal::Frame);
+    }
+    streams.out.write_all(&Event::DROPPED.to_bytes())?;
+    // It is said to have been sent, so it has to be.
+    streams.out.flush()?;
+    streams.words.say("input was lost, so SYN_DROPPED was sent");
+    Ok(())
+}
+
+fn send_frame<E: Write>(
+    writer: &mut Writer,
+    bytes: &[u8],
+    k: u64,
+    out: &mut impl Write,
+    words: &mut Words<E>,
+) -> io::Result<()> {
+    let mut frame = [0; 4 * SLOTS];
+    for (number, b) in frame.iter_mut().zip(bytes.chunks_exact(4)) {
+        *number = i32::from_le_bytes([b[0], b[1], b[2], b[3]]);
+    }
+    let mut buffer = [0; LARGEST_FRAME];
+    match writer.write(&frame[..bytes.len() / 4], &mut buffer, 0) {
+        Ok(written) => out.write_all(&buffer[..written.events as usize * RECORD])?,
+        Err(refusal) => refuse_frame(words, k, refusal),
+    }
+    Ok(())
+}
+
+fn refuse_frame<E: Write>(words: &mut Words<E>, k: u64, refusal: Refusal) {
+    words.at_least(Status::Refused);
+    words.line(&format!("frame {k} refused {}", refusal.number()));
+}
+
+/// A line for each answer of the pod but "more".
+pub fn show_pod(input: impl Read, out: impl Write, err: impl Write) -> Status {
+    let mut streams = Streams::new("show_pod", input, out, err);
+    let done = print_reports(&mut streams);
+    streams.end(done)
+}
+
+fn print_reports<R: Read, W: Write, E: Write>(streams: &mut Streams<R, W, E>) -> io::Result<()> {
+    let mut pod = Pod::FRESH;
+    let ended = streams.units(1, |bytes, out, _| -> io::Result<()> {
+        for byte in bytes {
+            let report = pod.take(*byte).expect(WELL_FORMED);
+            if pod.held == 0 {
+                writeln!(out, "{}", InWords(report))?;
             }
         }
+        Ok(())
+    })?;
+    match ended {
+        Came::Lost => writeln!(streams.out, "input lost"),
+        _ if pod.held > 0 => writeln!(streams.out, "more"),
+        _ => Ok(()),
     }
-    out.flush()
 }
 
-fn table_after(bytes: &[u8], failed: bool) -> Result<Reader, Refusal> {
-    let setup = header(bytes).ok_or(Refusal::Setup)?;
-    let mut reader = Reader::fresh(setup)?;
-    reader.run(&bytes[HEADER..])?;
-    if failed {
-        reader.one(Event::DROPPED)?;
-    }
-    Ok(reader)
+/// The answers to a script of docs/DRIVE.md.
+pub fn drive(input: impl Read, out: impl Write, err: impl Write) -> Status {
+    let mut streams = Streams::new("drive", input, out, err);
+    let done = answer_calls(&mut streams);
+    streams.end(done)
 }
 
-pub fn write_frames(mut input: impl Read, mut out: impl Write, mut err: impl Write) -> io::Result<()> {
-    let mut bytes = Vec::new();
-    input.read_to_end(&mut bytes)?;
-    let made = header(&bytes).ok_or(Refusal::Setup).and_then(Writer::fresh);
-    let mut writer = match made {
-        Ok(writer) => writer,
-        Err(refusal) => return writeln!(err, "refused {}", refusal.number()),
-    };
-    out.write_all(&bytes[..HEADER])?;
-    let mut buffer = [0; LARGEST_FRAME];
-    let mut frame = Vec::with_capacity(4 * writer.setup.slots as usize);
-    let frame_bytes = 16 * writer.setup.slots as usize;
-    for (k, part) in bytes[HEADER..].chunks(frame_bytes).enumerate() {
-        frame.clear();
-        frame.extend(part.chunks_exact(4).map(|b| i32::from_le_bytes([b[0], b[1], b[2], b[3]])));
-        // A last frame that is cut has too few whole numbers, and so is refused with 3.
-        match writer.write(&frame, &mut buffer, 0) {
-            Ok(written) => out.write_all(&buffer[..written.events as usize * RECORD])?,
-            Err(refusal) => writeln!(err, "frame {} refused {}", k + 1, refusal.number())?,
+fn answer_calls<R: Read, W: Write, E: Write>(streams: &mut Streams<R, W, E>) -> io::Result<()> {
+    let mut lines = Lines::new(LONGEST_LINE);
+    let ended = streams.units(1, |piece, out, words| lines.take(piece, |line| answer(line, out, words)))?;
+    // A line that a failed read cut may be another call than the one that was meant.
+    if ended == Came::End {
+        answer(lines.last(), &mut streams.out, &mut streams.words)?;
+    }
+    Ok(())
+}
+
+fn answer<E: Write>(line: &[u8], out: &mut impl Write, words: &mut Words<E>) -> io::Result<()> {
+    if is_passed_over(line) {
+        return Ok(());
+    }
+    match Call::parse(line) {
+        Some(call) => writeln!(out, "{}", call.answer()),
+        None => {
+            words.at_least(Status::Refused);
+            writeln!(out, "{BAD_LINE}")
         }
     }
-    out.flush()
-}
-
-pub fn show_pod(mut input: impl Read, mut out: impl Write) -> io::Result<()> {
-    let mut bytes = Vec::new();
-    input.read_to_end(&mut bytes)?;
-    let mut pod = Pod::FRESH;
-    for byte in bytes {
-        let report = pod.take(byte).expect("a pod that began fresh is well formed");
-        if pod.held == 0 {
-            writeln!(out, "{}", words(report))?;
-        }
-    }
-    if pod.held > 0 {
-        writeln!(out, "more")?;
-    }
-    out.flush()
 }
 
 #[cfg(test)]
-mod tests {
-    use super::*;
-    use crate::records::encode;
-
-    fn table(text: &str) -> String {
-        let mut out = Vec::new();
-        let bytes = encode(text).unwrap();
-        show_table(&bytes[..], &mut out, io::sink()).unwrap();
-        String::from_utf8(out).unwrap()
-    }
-
-    fn frames(text: &str) -> (String, String) {
-        let (mut out, mut err) = (Vec::new(), Vec::new());
-        let bytes = encode(text).unwrap();
-        write_frames(&bytes[..], &mut out, &mut err).unwrap();
-        (crate::records::decode(&out, false), String::from_utf8(err).unwrap())
-    }
-
-    #[test]
-    fn the_small_program() {
-        assert_eq!(
-            table("SETUP 2 4000 4000 255\nID 0\nX 100\nY 200\nPRESSURE 30\nREPORT\n"),
-            "following 0\n0 0 100 200 30\n1 -1 0 0 0\n"
-        );
-        assert_eq!(table(""), "refused 1\n");
-        assert_eq!(table("BYTES 01 00 00 00 01 00 00 00 01 00 00 00 01 00 00"), "refused 1\n");
-        assert_eq!(table("SETUP 17 1 1 1\nBYTES 00"), "refused 1\n");
-        assert_eq!(table("SETUP 1 2147483649 1 1"), "refused 1\n");
-        assert_eq!(table("SETUP 1 1 1 1\nBYTES 00"), "refused 6\n");
-        // The current slot is the one last set, reported or not.
-        assert_eq!(table("SETUP 2 9 9 9\nSLOT 1\nX 3\n"), "following 1\n0 -1 0 0 0\n1 -1 0 0 0\n");
-        assert_eq!(table("SETUP 2 9 9 9\nSLOT 1\nDROPPED\n"), "dropped 1\n");
-        assert_eq!(table("SETUP 2 9 9 9\nSLOT 2\nREPORT\n"), "stale 0\n");
-    }
-
-    #[test]
-    fn a_failed_read_is_a_loss() {
-        struct Failing<'a>(&'a [u8]);
-        impl Read for Failing<'_> {
-            fn read(&mut self, room: &mut [u8]) -> io::Result<usize> {
-                match self.0.read(room)? {
-                    0 => Err(io::Error::other("gone")),
-                    count => Ok(count),
-                }
-            }
-        }
-        let bytes = encode("SETUP 1 9 9 9\nID 0\nREPORT\n").unwrap();
-        let (mut out, mut err) = (Vec::new(), Vec::new());
-        show_table(Failing(&bytes), &mut out, &mut err).unwrap();
-        assert_eq!(out, b"dropped 0\n");
-        assert!(!err.is_empty());
-    }
-
-    #[test]
-    fn frames_good_refused_and_cut() {
-        let (out, err) = frames(
-            "SETUP 1 9 9 9\nFRAME 1 1 2 3\nFRAME 3 0 0 0\nFRAME 1 10 0 0\nFRAME 1 1 2 4\nFRAME 0 -7 0 0\nBYTES 01 00 00 00 05",
-        );
-        assert_eq!(out, "SETUP 1 9 9 9\nID 0\nX 1\nY 2\nPRESSURE 3\nREPORT\nPRESSURE 4\nREPORT\nID -1\nREPORT\n");
-        assert_eq!(err, "frame 2 refused 4\nframe 3 refused 4\nframe 6 refused 3\n");
-        assert_eq!(frames("SETUP 0 9 9 9\n"), (String::new(), "refused 1\n".to_string()));
-        assert_eq!(frames("BYTES 01"), (String::new(), "refused 1\n".to_string()));
-    }
-
-    #[test]
-    fn a_cut_frame_of_whole_numbers() {
-        let (out, err) = frames("SETUP 1 9 9 9\nBYTES 01 00 00 00 01 00 00 00 01 00 00 00");
-        assert_eq!(out, "SETUP 1 9 9 9\n");
-        assert_eq!(err, "frame 1 refused 3\n");
-    }
-
-    #[test]
-    fn pod_lines() {
-        let mut out = Vec::new();
-        let bytes = [
-            0x75, 0xF5, 0x00, 0xF8, 0x80, 0x7F, 0xFE, 0x81, 0xFF, 0x10, 0xF7, 0x05, 0x01, 0x2C, 0x00, 0xC8, 0xFD, 0x00,
-            0x81, 0xFF, 0x0F, 0xF7, 0x10,
-        ];
-        show_pod(&bytes[..], &mut out).unwrap();
-        assert_eq!(
-            String::from_utf8(out).unwrap(),
-            "down 117\nup 117\nbad byte\nrelative 0 0 -128 127\nstick 0 1 1\nbad report\n\
-             absolute 5 300 200\nsticks 0 0 1 1\nstick 1 0 15\nmore\n"
-        );
-    }
-}
+mod tests;

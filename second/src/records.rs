@@ -1,11 +1,19 @@
-//! Readable text and the bytes of a program's input, both ways.
+//! Readable text and the bytes of a program's input, both ways, as streams of any length.
 
-use std::fmt::Write;
+use std::fmt;
+use std::io::{self, Read, Write};
 
 use crate::events::*;
+use crate::streams::{Came, Lines, Status, Streams};
 use crate::table::SLOTS;
 
 const HEADER: usize = 16;
+/// Bytes that a line of `BYTES` has at most.
+const BYTES_A_LINE: usize = 16;
+/// A longer line of text is refused rather than held.
+const LONGEST_LINE: usize = 1 << 20;
+/// What begins a line on standard error.
+const NAME: &str = "second";
 
 const NAMES: [(&str, u16); 5] = [
     ("SLOT", ABS_MT_SLOT),
@@ -36,152 +44,218 @@ pub fn event(words: &[&str]) -> Result<Event, String> {
 
 /// The words that [`event`] reads back to the same event.
 pub fn event_text(event: Event) -> String {
-    if event == Event::REPORT {
-        return "REPORT".to_string();
-    }
-    if event == Event::DROPPED {
-        return "DROPPED".to_string();
-    }
-    let Event { kind, code, value } = event;
-    match NAMES.iter().find(|(_, known)| *known == code) {
-        Some((name, _)) if kind == EV_ABS => format!("{name} {value}"),
-        _ => format!("EVENT {kind} {code} {value}"),
+    InWords(event).to_string()
+}
+
+struct InWords(Event);
+
+impl fmt::Display for InWords {
+    fn fmt(&self, f: &mut fmt::Formatter) -> fmt::Result {
+        let Event { kind, code, value } = self.0;
+        match NAMES.iter().find(|(_, known)| *known == code) {
+            _ if self.0 == Event::REPORT => f.write_str("REPORT"),
+            _ if self.0 == Event::DROPPED => f.write_str("DROPPED"),
+            Some((name, _)) if kind == EV_ABS => write!(f, "{name} {value}"),
+            _ => write!(f, "EVENT {kind} {code} {value}"),
+        }
     }
 }
 
+/// Why encoding ended before the text did.
+enum Stop {
+    Line(String),
+    Write(io::Error),
+}
+
+impl From<io::Error> for Stop {
+    fn from(error: io::Error) -> Stop {
+        Stop::Write(error)
+    }
+}
+
+/// Text to bytes. A line that is wrong is named by its number and ends it; the bytes of the lines before are written.
+pub fn encode(input: impl Read, out: impl Write, err: impl Write) -> Status {
+    let mut streams = Streams::new(NAME, input, out, err);
+    let done = match encode_lines(&mut streams) {
+        Err(Stop::Line(what)) => {
+            streams.words.at_least(Status::Refused);
+            streams.words.say(&what);
+            Ok(())
+        }
+        Err(Stop::Write(error)) => Err(error),
+        Ok(()) => Ok(()),
+    };
+    streams.end_or_closed(done)
+}
+
+fn encode_lines<R: Read, W: Write, E: Write>(streams: &mut Streams<R, W, E>) -> Result<(), Stop> {
+    let mut lines = Lines::new(LONGEST_LINE);
+    let mut encoder = Encoder::default();
+    let ended = streams.units(1, |piece, out, _| lines.take(piece, |line| encode_line(&mut encoder, line, out)))?;
+    // What a failed read left of a line may be a line too, with another number.
+    if ended == Came::End {
+        encode_line(&mut encoder, lines.last(), &mut streams.out)?;
+    }
+    Ok(())
+}
+
+fn encode_line(encoder: &mut Encoder, line: &[u8], out: &mut impl Write) -> Result<(), Stop> {
+    out.write_all(encoder.line(line).map_err(Stop::Line)?)?;
+    Ok(())
+}
+
 /// What the lines so far were for: a text is one program's input, and a mix would be read as something else.
-#[derive(Clone, Copy, PartialEq)]
+#[derive(Clone, Copy, PartialEq, Default)]
 enum Purpose {
+    #[default]
     Open,
     Events,
     Frames,
 }
 
-/// Text to bytes; an error names its line.
-pub fn encode(text: &str) -> Result<Vec<u8>, String> {
-    let mut bytes = Vec::new();
-    let mut slots = None;
-    let mut purpose = Purpose::Open;
-    for (number, line) in text.lines().enumerate() {
+/// What a line's meaning needs of the lines before it.
+#[derive(Default)]
+struct Encoder {
+    number: u64,
+    begun: bool,
+    slots: Option<u32>,
+    purpose: Purpose,
+    bytes: Vec<u8>,
+}
+
+impl Encoder {
+    /// The bytes of the next line; an error names it.
+    fn line(&mut self, line: &[u8]) -> Result<&[u8], String> {
+        self.number += 1;
+        self.bytes.clear();
+        self.put_line(line).map_err(|what| format!("line {}: {what}", self.number))?;
+        self.begun |= !self.bytes.is_empty();
+        Ok(&self.bytes)
+    }
+
+    fn put_line(&mut self, line: &[u8]) -> Result<(), String> {
+        if line.len() > LONGEST_LINE {
+            return Err(format!("longer than {LONGEST_LINE} bytes"));
+        }
+        let line = std::str::from_utf8(line).map_err(|error| format!("no text: {error}"))?;
         let words: Vec<&str> = line.split_whitespace().collect();
-        if words.is_empty() || words[0].starts_with('#') {
-            continue;
+        match words[..] {
+            [] => Ok(()),
+            [first, ..] if first.starts_with('#') => Ok(()),
+            ["SETUP", ref rest @ ..] => self.put_setup(rest),
+            ["BYTES", ref rest @ ..] => self.put_bytes(rest),
+            ["FRAME", ref rest @ ..] => self.put_frame(rest),
+            _ => self.put_event(&words),
         }
-        encode_line(&words, &mut bytes, &mut slots, &mut purpose)
-            .map_err(|what| format!("line {}: {what}", number + 1))?;
     }
-    Ok(bytes)
-}
 
-fn encode_line(
-    words: &[&str],
-    bytes: &mut Vec<u8>,
-    slots: &mut Option<u32>,
-    purpose: &mut Purpose,
-) -> Result<(), String> {
-    match words {
-        ["SETUP", rest @ ..] => {
-            if !bytes.is_empty() {
-                return Err("SETUP must come first".to_string());
-            }
-            if rest.len() != 4 {
-                return Err("SETUP takes four numbers: n, largest x, largest y, largest pressure".to_string());
-            }
-            for word in rest {
-                bytes.extend(decimal::<u32>(word)?.to_le_bytes());
-            }
-            *slots = rest[0].parse().ok();
+    fn put_setup(&mut self, words: &[&str]) -> Result<(), String> {
+        if self.begun {
+            return Err("SETUP must come first".to_string());
         }
-        ["BYTES", rest @ ..] => {
-            for word in rest {
-                let byte = u8::from_str_radix(word, 16)
-                    .ok()
-                    .filter(|_| word.len() == 2 && word.bytes().all(|digit| digit.is_ascii_hexdigit()));
-                bytes.push(byte.ok_or_else(|| format!("'{word}' is no byte of two hex digits"))?);
-            }
+        if words.len() != 4 {
+            return Err("SETUP takes four numbers: n, largest x, largest y, largest pressure".to_string());
         }
-        ["FRAME", rest @ ..] => {
-            if *purpose == Purpose::Events {
-                return Err("FRAME among events".to_string());
-            }
-            *purpose = Purpose::Frames;
-            let good = match slots {
-                Some(n) if (1..=SLOTS as u32).contains(n) => rest.len() == 4 * *n as usize,
-                _ => rest.len() % 4 == 0,
-            };
-            if !good {
-                return Err("FRAME takes four numbers (kind, x, y, pressure) for each of SETUP's slots".to_string());
-            }
-            for word in rest {
-                bytes.extend(decimal::<i32>(word)?.to_le_bytes());
-            }
+        self.slots = words[0].parse().ok();
+        for word in words {
+            self.bytes.extend(decimal::<u32>(word)?.to_le_bytes());
         }
-        _ => {
-            let event = event(words)?;
-            if *purpose == Purpose::Frames {
-                return Err("an event among FRAMEs".to_string());
-            }
-            *purpose = Purpose::Events;
-            bytes.extend(event.to_bytes());
-        }
+        Ok(())
     }
-    Ok(())
-}
 
-/// Bytes to text that encodes to the same bytes, whatever they are.
-pub fn decode(bytes: &[u8], frames: bool) -> String {
-    let mut text = String::new();
-    if bytes.len() < HEADER {
-        put_bytes(&mut text, bytes);
-        return text;
+    fn put_bytes(&mut self, words: &[&str]) -> Result<(), String> {
+        for word in words {
+            let byte = u8::from_str_radix(word, 16)
+                .ok()
+                .filter(|_| word.len() == 2 && word.bytes().all(|digit| digit.is_ascii_hexdigit()));
+            self.bytes.push(byte.ok_or_else(|| format!("'{word}' is no byte of two hex digits"))?);
+        }
+        Ok(())
     }
-    let (header, rest) = bytes.split_at(HEADER);
-    let setup: Vec<u32> = words(header).map(u32::from_le_bytes).collect();
-    put_numbers(&mut text, "SETUP", &setup);
-    if frames {
-        let n = setup[0] as usize;
-        let rest = if (1..=SLOTS).contains(&n) {
-            let all = rest.chunks_exact(16 * n);
-            let cut = all.remainder();
-            for frame in all {
-                let numbers: Vec<i32> = words(frame).map(i32::from_le_bytes).collect();
-                put_numbers(&mut text, "FRAME", &numbers);
-            }
-            cut
-        } else {
-            rest
+
+    fn put_frame(&mut self, words: &[&str]) -> Result<(), String> {
+        if self.purpose == Purpose::Events {
+            return Err("FRAME among events".to_string());
+        }
+        self.purpose = Purpose::Frames;
+        let good = match self.slots {
+            Some(n) if (1..=SLOTS as u32).contains(&n) => words.len() == 4 * n as usize,
+            _ => words.len() % 4 == 0,
         };
-        put_bytes(&mut text, rest);
-    } else {
-        for event in events(rest) {
-            text.push_str(&event_text(event));
-            text.push('\n');
+        if !good {
+            return Err("FRAME takes four numbers (kind, x, y, pressure) for each of SETUP's slots".to_string());
         }
-        put_bytes(&mut text, rest.chunks_exact(RECORD).remainder());
+        for word in words {
+            self.bytes.extend(decimal::<i32>(word)?.to_le_bytes());
+        }
+        Ok(())
     }
-    text
+
+    fn put_event(&mut self, words: &[&str]) -> Result<(), String> {
+        let event = event(words)?;
+        if self.purpose == Purpose::Frames {
+            return Err("an event among FRAMEs".to_string());
+        }
+        self.purpose = Purpose::Events;
+        self.bytes.extend(event.to_bytes());
+        Ok(())
+    }
+}
+
+/// Bytes to text that encodes to the same bytes, whatever they are. What came before a failed read is decoded too.
+pub fn decode(input: impl Read, out: impl Write, err: impl Write, frames: bool) -> Status {
+    let mut streams = Streams::new(NAME, input, out, err);
+    let done = decode_units(&mut streams, frames);
+    streams.end_or_closed(done)
+}
+
+fn decode_units<R: Read, W: Write, E: Write>(streams: &mut Streams<R, W, E>, frames: bool) -> io::Result<()> {
+    if streams.hold(HEADER)? == Came::More {
+        let setup: Vec<u32> = words(&streams.input.held()[..HEADER]).map(u32::from_le_bytes).collect();
+        put_numbers(&mut streams.out, "SETUP", setup.iter())?;
+        streams.input.take(HEADER);
+        let n = setup[0] as usize;
+        if !frames {
+            streams.units(RECORD, |records, out, _| put_events(out, records))?;
+        } else if (1..=SLOTS).contains(&n) {
+            let size = 16 * n;
+            streams.units(size, |run, out, _| put_frames(out, run, size))?;
+        } else {
+            streams.units(BYTES_A_LINE, |bytes, out, _| put_bytes(out, bytes))?;
+        }
+    }
+    put_bytes(&mut streams.out, streams.input.held())
 }
 
 fn words(bytes: &[u8]) -> impl Iterator<Item = [u8; 4]> + '_ {
     bytes.chunks_exact(4).map(|b| [b[0], b[1], b[2], b[3]])
 }
 
-fn put_numbers<T: std::fmt::Display>(text: &mut String, word: &str, numbers: &[T]) {
-    text.push_str(word);
-    for number in numbers {
-        write!(text, " {number}").expect("a string takes everything");
-    }
-    text.push('\n');
+fn put_events(out: &mut impl Write, records: &[u8]) -> io::Result<()> {
+    events(records).try_for_each(|event| writeln!(out, "{}", InWords(event)))
 }
 
-fn put_bytes(text: &mut String, bytes: &[u8]) {
-    for line in bytes.chunks(16) {
-        text.push_str("BYTES");
-        for byte in line {
-            write!(text, " {byte:02X}").expect("a string takes everything");
-        }
-        text.push('\n');
+fn put_frames(out: &mut impl Write, bytes: &[u8], size: usize) -> io::Result<()> {
+    bytes.chunks_exact(size).try_for_each(|frame| put_numbers(out, "FRAME", words(frame).map(i32::from_le_bytes)))
+}
+
+fn put_numbers<T: fmt::Display>(out: &mut impl Write, word: &str, numbers: impl Iterator<Item = T>) -> io::Result<()> {
+    out.write_all(word.as_bytes())?;
+    for number in numbers {
+        write!(out, " {number}")?;
     }
+    out.write_all(b"\n")
+}
+
+fn put_bytes(out: &mut impl Write, bytes: &[u8]) -> io::Result<()> {
+    for line in bytes.chunks(BYTES_A_LINE) {
+        out.write_all(b"BYTES")?;
+        for byte in line {
+            write!(out, " {byte:02X}")?;
+        }
+        out.write_all(b"\n")?;
+    }
+    Ok(())
 }
 
 fn decimal<T: std::str::FromStr>(word: &str) -> Result<T, String> {
@@ -196,70 +270,4 @@ fn half(word: &str) -> Result<u16, String> {
 }
 
 #[cfg(test)]
-mod tests {
-    use super::*;
-    use crate::random::Random;
-
-    #[test]
-    fn p1_and_its_text() {
-        let text = "SETUP 2 4000 4000 255\n# a finger\n\nID 0\nX 100\nY 200\nPRESSURE 30\nREPORT\n";
-        let bytes = encode(text).unwrap();
-        assert_eq!(bytes.len(), 56);
-        assert_eq!(bytes[16..24], [3, 0, 0x39, 0, 0, 0, 0, 0]);
-        assert_eq!(decode(&bytes, false), "SETUP 2 4000 4000 255\nID 0\nX 100\nY 200\nPRESSURE 30\nREPORT\n");
-    }
-
-    #[test]
-    fn frames_and_cut_ones() {
-        let text = "SETUP 1 9 9 9\nFRAME 1 2 3 4\nFRAME 0 -1 0 0\nBYTES 01 00\n";
-        let bytes = encode(text).unwrap();
-        assert_eq!(bytes.len(), 16 + 32 + 2);
-        assert_eq!(decode(&bytes, true), text);
-    }
-
-    #[test]
-    fn every_byte_string_comes_back() {
-        let mut random = Random::new(7);
-        for length in 0..200 {
-            let mut bytes: Vec<u8> = (0..length).map(|_| random.word() as u8).collect();
-            if length > 16 && random.once_in(2) {
-                bytes[..4].copy_from_slice(&(random.from_to(0, 4) as u32).to_le_bytes());
-                for record in bytes[16..].chunks_exact_mut(8) {
-                    record[0] = random.pick(&[0, 3]);
-                    record[1] = 0;
-                    record[2] = random.pick(&[0, 3, 0x2f, 0x35, 0x36, 0x39, 0x3a, 0x33]);
-                    record[3] = 0;
-                }
-            }
-            for frames in [false, true] {
-                let text = decode(&bytes, frames);
-                assert_eq!(encode(&text).as_ref(), Ok(&bytes), "{text}");
-            }
-        }
-    }
-
-    #[test]
-    fn errors_name_their_line() {
-        for (text, line) in [
-            ("X 1\nQ 2\n", 2),
-            ("# one\n\nX\n", 3),
-            ("X 1 2\n", 1),
-            ("X 2147483648\n", 1),
-            ("REPORT 1\n", 1),
-            ("EVENT 65536 0 0\n", 1),
-            ("EVENT 3 0xfffff 0\n", 1),
-            ("X 1\nSETUP 1 2 3 4\n", 2),
-            ("SETUP 1 2 3\n", 1),
-            ("SETUP 1 2 3 4\nFRAME 1 2 3\n", 2),
-            ("SETUP 2 9 9 9\nFRAME 1 2 3 4\n", 2),
-            ("X 1\nFRAME 1 2 3 4\n", 2),
-            ("FRAME 1 2 3 4\nX 1\n", 2),
-            ("BYTES 1 2\n", 1),
-            ("BYTES +1\n", 1),
-            ("x 1\n", 1),
-        ] {
-            let error = encode(text).unwrap_err();
-            assert!(error.starts_with(&format!("line {line}: ")), "{error}");
-        }
-    }
-}
+mod tests;

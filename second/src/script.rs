@@ -1,6 +1,6 @@
 //! Scripts of calls in the format of docs/DRIVE.md: a line read, written, and answered.
 
-use std::io::{self, BufRead, Write};
+use std::fmt;
 
 use crate::events::Event;
 use crate::pod::{Pod, Report};
@@ -14,6 +14,7 @@ pub const MOST_NUMBERS: usize = 12_000;
 pub const LARGEST_BUFFER: usize = 4_096;
 pub const BAD_LINE: &str = "bad line";
 
+/// One line of a script, with the whole state that it carries.
 #[derive(Clone, PartialEq, Eq, Debug)]
 pub enum Call {
     Fresh(Setup),
@@ -38,53 +39,44 @@ pub fn is_passed_over(line: &[u8]) -> bool {
     line.is_empty() || line[0] == b'#'
 }
 
-/// Answers every call of a script.
-pub fn answer_all(script: impl BufRead, mut out: impl Write) -> io::Result<()> {
-    for line in script.split(b'\n') {
-        let line = line?;
-        if !is_passed_over(&line) {
-            writeln!(out, "{}", answer_line(&line))?;
-        }
-    }
-    out.flush()
-}
-
+/// The answer to a line that is not passed over.
 pub fn answer_line(line: &[u8]) -> String {
     Call::parse(line).map_or_else(|| BAD_LINE.to_string(), |call| call.answer())
 }
 
 impl Call {
+    /// The call that a line is; `None` for a bad line.
     pub fn parse(line: &[u8]) -> Option<Call> {
         if line.len() > LONGEST_LINE {
             return None;
         }
         let mut words = line.split(|byte| *byte == b' ').filter(|word| !word.is_empty());
-        let letter = words.next()?[0];
+        let word = words.next()?;
         let mut numbers = Numbers(words.map(number).collect::<Option<Vec<_>>>()?.into_iter());
         if numbers.0.len() > MOST_NUMBERS {
             return None;
         }
-        let call = match letter {
-            b'f' => Call::Fresh(numbers.setup()?),
-            b'n' => Call::New(numbers.setup()?),
-            b'r' => Call::Run { reader: numbers.reader()?, bytes: numbers.rest()? },
-            b'o' => Call::One {
+        let call = match word {
+            b"fresh" => Call::Fresh(numbers.setup()?),
+            b"new" => Call::New(numbers.setup()?),
+            b"run" => Call::Run { reader: numbers.reader()?, bytes: numbers.rest()? },
+            b"one" => Call::One {
                 reader: numbers.reader()?,
                 event: Event { kind: numbers.one()?, code: numbers.one()?, value: numbers.one()? },
             },
-            b'l' => {
+            b"load" => {
                 Call::Load { reader: numbers.reader()?, current: SlotNumber(numbers.one()?), image: numbers.rest()? }
             }
-            b'a' => Call::Ask { reader: numbers.reader()?, slot: SlotNumber(numbers.one()?) },
-            b'w' => Call::Write {
+            b"ask" => Call::Ask { reader: numbers.reader()?, slot: SlotNumber(numbers.one()?) },
+            b"write" => Call::Write {
                 writer: numbers.writer()?,
                 position: numbers.one()?,
                 size: numbers.one::<usize>().filter(|size| *size <= LARGEST_BUFFER)?,
                 frame: numbers.rest()?,
             },
-            b'g' => Call::Good { reader: numbers.reader()? },
-            b's' => Call::Start,
-            b'p' => {
+            b"good" => Call::Good { reader: numbers.reader()? },
+            b"start" => Call::Start,
+            b"pod" => {
                 Call::Pod { pod: numbers.pod()?, bytes: numbers.rest().filter(|bytes: &Vec<u8>| !bytes.is_empty())? }
             }
             _ => return None,
@@ -92,6 +84,7 @@ impl Call {
         numbers.0.next().is_none().then_some(call)
     }
 
+    /// The word that a call's line begins with.
     pub fn name(&self) -> &'static str {
         match self {
             Call::Fresh(_) => "fresh",
@@ -107,6 +100,7 @@ impl Call {
         }
     }
 
+    /// The line that [`Call::parse`] reads back to the same call.
     pub fn line(&self) -> String {
         let mut line = Line(self.name().to_string());
         match self {
@@ -146,6 +140,7 @@ impl Call {
         line.0
     }
 
+    /// Makes the call on a copy of its state; the answer's line.
     pub fn answer(&self) -> String {
         let mut line = Line(String::new());
         match self {
@@ -213,7 +208,7 @@ impl Call {
                     let report = pod.take(*byte);
                     line.pod(&pod);
                     match report {
-                        Ok(report) => line.put(words(report)),
+                        Ok(report) => line.put(InWords(report)),
                         Err(refusal) => line.refused(refusal),
                     }
                 }
@@ -224,21 +219,25 @@ impl Call {
 }
 
 /// A pod's answer in words, as `drive` and `show_pod` print it.
-pub fn words(report: Report) -> String {
-    match report {
-        Report::More => "more".to_string(),
-        Report::Down(key) => format!("down {key}"),
-        Report::Up(key) => format!("up {key}"),
-        Report::Absolute { flags, x, y } => format!("absolute {flags} {x} {y}"),
-        Report::Relative { left, right, dx, dy } => format!("relative {} {} {dx} {dy}", left as u8, right as u8),
-        Report::Sticks(zero, one) => {
-            format!("sticks {} {} {} {}", zero.trigger as u8, zero.position, one.trigger as u8, one.position)
+pub struct InWords(pub Report);
+
+impl fmt::Display for InWords {
+    fn fmt(&self, f: &mut fmt::Formatter) -> fmt::Result {
+        match self.0 {
+            Report::More => f.write_str("more"),
+            Report::Down(key) => write!(f, "down {key}"),
+            Report::Up(key) => write!(f, "up {key}"),
+            Report::Absolute { flags, x, y } => write!(f, "absolute {flags} {x} {y}"),
+            Report::Relative { left, right, dx, dy } => {
+                write!(f, "relative {} {} {dx} {dy}", left as u8, right as u8)
+            }
+            Report::Sticks(zero, one) => {
+                write!(f, "sticks {} {} {} {}", zero.trigger as u8, zero.position, one.trigger as u8, one.position)
+            }
+            Report::Stick { which, stick } => write!(f, "stick {which} {} {}", stick.trigger as u8, stick.position),
+            Report::BadByte => f.write_str("bad byte"),
+            Report::BadReport => f.write_str("bad report"),
         }
-        Report::Stick { which, stick } => {
-            format!("stick {which} {} {}", stick.trigger as u8, stick.position)
-        }
-        Report::BadByte => "bad byte".to_string(),
-        Report::BadReport => "bad report".to_string(),
     }
 }
 
@@ -317,15 +316,15 @@ impl Numbers {
 struct Line(String);
 
 impl Line {
-    fn put(&mut self, part: impl std::fmt::Display) {
-        use std::fmt::Write;
+    fn put(&mut self, part: impl fmt::Display) {
+        use fmt::Write;
         if !self.0.is_empty() {
             self.0.push(' ');
         }
         write!(self.0, "{part}").expect("a string takes everything");
     }
 
-    fn all<T: std::fmt::Display>(&mut self, parts: &[T]) {
+    fn all<T: fmt::Display>(&mut self, parts: &[T]) {
         for part in parts {
             self.put(part);
         }
@@ -457,23 +456,43 @@ mod tests {
     }
 
     #[test]
-    fn only_the_first_letter_counts_and_spaces_may_repeat() {
-        assert_eq!(answer("f  1 2  3 4"), answer("fresh 1 2 3 4"));
+    fn a_word_is_written_out_whole() {
+        let table = UNUSED.repeat(16);
+        let reader = format!("1 9 9 9 0 0 {table}{table}");
+        let numbers = |name: &str| match name {
+            "fresh" | "new" => "1 2 3 4".to_string(),
+            "run" | "good" => reader.clone(),
+            "one" => format!("{reader}3 57 0"),
+            "load" | "ask" => format!("{reader}0"),
+            "write" => format!("1 9 9 9 0 0 {table}0 0 0 0 0 0"),
+            "pod" => "0 0 0 0 0 0 1".to_string(),
+            _ => String::new(),
+        };
+        for name in ["fresh", "new", "run", "one", "load", "ask", "good", "write", "start", "pod"] {
+            assert_ne!(answer(&format!("{name} {}", numbers(name))), BAD_LINE, "{name}");
+            let upper = name[..1].to_uppercase() + &name[1..];
+            let longer = format!("{name}ly");
+            let other = format!("{}oo", &name[..1]);
+            for word in [&name[..1], &name[..name.len() - 1], &upper, &longer, &other, &format!("{name}\r")] {
+                assert_eq!(answer(&format!("{word} {}", numbers(name))), BAD_LINE, "{word}");
+            }
+        }
+        for line in ["stop", "foo 1 2 3 4", "Fresh 1 2 3 4", "freshly 1 2 3 4", "start\t", "fresh\t1 2 3 4"] {
+            assert_eq!(answer(line), BAD_LINE, "{line}");
+        }
+        assert_eq!(answer_line(b"fresh\xff 1 2 3 4"), BAD_LINE);
+    }
+
+    #[test]
+    fn spaces_and_zeros_too_many() {
+        assert_eq!(answer("fresh  1 2  3 4"), answer("fresh 1 2 3 4"));
         assert_eq!(answer(" fresh 01 2 3 4 "), answer("fresh 1 2 3 4"));
         assert_eq!(answer("new -0 2 3 4"), answer("new 0 2 3 4"));
-        assert_eq!(answer_line(b"f\xff 1 2 3 4"), answer("fresh 1 2 3 4"));
         assert_eq!(answer("pod 0 0 0 0 0 0 1"), "0 0 0 0 0 0 down 1");
         assert_eq!(answer("pod 1 255 0 0 0 0 16 245"), "0 0 0 0 0 0 bad report / 0 0 0 0 0 0 up 117");
         assert_eq!(answer("start"), "0 0 0 0 0 0");
         let full = 12_000 - 134;
         let table = UNUSED.repeat(16);
-        assert!(answer(&format!("r 1 9 9 9 0 0 {table}{table}{}", "0 ".repeat(full))).starts_with("6 "));
-    }
-
-    #[test]
-    fn passed_over() {
-        let mut out = Vec::new();
-        answer_all(&b"# a name\n\npod 0 0 0 0 0 0 0\npod 0 0 0 0 0 0 254"[..], &mut out).unwrap();
-        assert_eq!(out, b"0 0 0 0 0 0 bad byte\n1 254 0 0 0 0 more\n");
+        assert!(answer(&format!("run 1 9 9 9 0 0 {table}{table}{}", "0 ".repeat(full))).starts_with("6 "));
     }
 }

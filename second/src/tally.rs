@@ -140,18 +140,7 @@ impl Tally {
         }
         let call: Vec<&str> = line.split(' ').filter(|word| !word.is_empty()).collect();
         let said: Vec<&str> = answer.split(' ').collect();
-        let name = match call[0].as_bytes()[0] {
-            b'f' => "fresh",
-            b'n' => "new",
-            b'r' => "run",
-            b'o' => "one",
-            b'l' => "load",
-            b'a' => "ask",
-            b'w' => "write",
-            b'g' => "good",
-            b's' => "start",
-            _ => "pod",
-        };
+        let name = call[0];
         match name {
             "ask" if said[0] == "contact" => self.note("ask contact".to_string()),
             "ask" => self.note(format!("ask {answer}")),
@@ -239,7 +228,7 @@ fn rows<'a>(counted: &BTreeMap<String, u64>, names: impl Iterator<Item = &'a str
 mod tests {
     use super::*;
     use crate::maker::Maker;
-    use crate::script::answer_all;
+    use crate::programs::drive;
 
     #[test]
     fn some_thousands_of_calls_show_everything() {
@@ -247,7 +236,7 @@ mod tests {
             let mut maker = Maker::new(seed);
             let script: String = (0..4000).map(|_| maker.lines()).collect();
             let mut answers = Vec::new();
-            answer_all(script.as_bytes(), &mut answers).unwrap();
+            drive(script.as_bytes(), &mut answers, std::io::sink());
             let tally = Tally::of(&script, std::str::from_utf8(&answers).unwrap()).unwrap();
             assert_eq!(tally.missing(), [""; 0], "seed {seed}");
             for name in tally.seen.keys() {

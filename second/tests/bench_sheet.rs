@@ -8,6 +8,7 @@ use second::pod::{Pod, Report, Stick};
 use second::programs::show_table;
 use second::reader::Reader;
 use second::refusal::Refusal;
+use second::streams::Status;
 use second::table::{SlotNumber, TrackingId};
 use second::writer::{Writer, Written};
 
@@ -99,7 +100,7 @@ fn run_the_small_program_on_p1() {
     }
     input.extend(P1);
     let mut out = Vec::new();
-    show_table(&input[..], &mut out, std::io::sink()).unwrap();
+    assert_eq!(show_table(&input[..], &mut out, std::io::sink()), Status::Accepted);
     assert_eq!(String::from_utf8(out).unwrap(), "following 0\n0 0 100 200 30\n1 -1 0 0 0\n");
 }
 

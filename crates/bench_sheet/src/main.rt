@@ -7,6 +7,7 @@ use pod::PodState;
 use reader::FreshAnswer;
 use reader::Mode;
 use reader::ReaderState;
+use stream::Out;
 use writer::FreshWriter;
 use writer::WriterState;
 use writer::Written;
@@ -21,66 +22,74 @@ const AT: usize = 3;
 
 const FILLED: u8 = 170;
 
-fn say_setup(s: Setup) {
-    words::say_part(b" setup", s.n as u64);
-    words::say_number(s.x as u64);
-    words::say_number(s.y as u64);
-    words::say_number(s.pressure as u64);
+fn say_setup(page: &mut [u8], out: Out, s: Setup) -> Out {
+    let a = words::say_part(page, out, b" setup", s.n as u64);
+    let b = words::say_number(page, a, s.x as u64);
+    let c = words::say_number(page, b, s.y as u64);
+    words::say_number(page, c, s.pressure as u64)
 }
 
-fn say_table(name: &[u8], table: [Slot; RECORDS]) {
-    stream::say(name);
-    words::say_slots(table, RECORDS, b",", false);
+fn say_table(page: &mut [u8], out: Out, name: &[u8], table: [Slot; RECORDS]) -> Out {
+    let a = stream::say(page, out, name);
+    words::say_table(page, a, table, b",")
 }
 
-fn say_mode(m: Mode) {
+fn say_mode(page: &mut [u8], out: Out, m: Mode) -> Out {
     match m {
-        Mode::Following => stream::say(b" following"),
-        Mode::Dropped => stream::say(b" dropped"),
-        Mode::Stale => stream::say(b" stale"),
+        Mode::Following => stream::say(page, out, b" following"),
+        Mode::Dropped => stream::say(page, out, b" dropped"),
+        Mode::Stale => stream::say(page, out, b" stale"),
     }
 }
 
-fn say_writer(s: WriterState) {
+fn say_writer(page: &mut [u8], out: Out, s: WriterState) -> Out {
     let setup = s.setup;
     let current = s.current;
     let table = s.table;
-    say_setup(setup);
-    words::say_part(b" current", current.0 as u64);
-    words::say_part(b" counter", s.counter as u64);
-    say_table(b" table", table);
+    let a = say_setup(page, out, setup);
+    let b = words::say_part(page, a, b" current", current.0 as u64);
+    let c = words::say_part(page, b, b" counter", s.counter as u64);
+    say_table(page, c, b" table", table)
 }
 
-fn say_reader(s: ReaderState) {
+fn say_reader(page: &mut [u8], out: Out, s: ReaderState) -> Out {
     let mode = s.mode;
     let setup = s.setup;
     let current = s.current;
     let shown = s.shown;
     let pending = s.pending;
-    say_mode(mode);
-    say_setup(setup);
-    words::say_part(b" current", current.0 as u64);
-    say_table(b" shown", shown);
-    say_table(b" pending", pending);
+    let a = say_mode(page, out, mode);
+    let b = say_setup(page, a, setup);
+    let c = words::say_part(page, b, b" current", current.0 as u64);
+    let d = say_table(page, c, b" shown", shown);
+    say_table(page, d, b" pending", pending)
+}
+
+fn say_counts(page: &mut [u8], out: Out, a: Written) -> Out {
+    let verdict = a.verdict;
+    let b = words::say_part(page, out, b": verdict", verdict.number() as u64);
+    let c = words::say_part(page, b, b" count", a.count as u64);
+    let d = words::say_part(page, c, b" changed", a.changed as u64);
+    words::say_part(page, d, b" need", a.need as u64)
 }
 
 // A writer's answer, with the whole buffer that it was lent.
-fn say_written(name: &[u8], a: Written, buf: &[u8]) {
-    let verdict = a.verdict;
+fn say_written(page: &mut [u8], out: Out, name: &[u8], a: Written, buf: &[u8]) -> Out {
     let state = a.state;
-    stream::say(name);
-    words::say_part(b": verdict", verdict.number() as u64);
-    words::say_part(b" count", a.count as u64);
-    words::say_part(b" changed", a.changed as u64);
-    words::say_part(b" need", a.need as u64);
-    say_writer(state);
-    stream::say(b" bytes");
-    words::say_bytes(buf);
-    stream::say(b"\n");
+    let b = stream::say(page, out, name);
+    let c = say_counts(page, b, a);
+    let d = say_writer(page, c, state);
+    say_all_bytes(page, d, buf)
+}
+
+fn say_all_bytes(page: &mut [u8], out: Out, buf: &[u8]) -> Out {
+    let a = stream::say(page, out, b" bytes");
+    let b = words::say_bytes(page, a, buf);
+    stream::say(page, b, b"\n")
 }
 
 // Id 7 is live while its own contact is replaced, so the new one takes 8: a writer that frees it first would send nothing.
-fn counter_case() {
+fn counter_case(page: &mut [u8], out: Out) -> Out {
     let fresh = WriterState::fresh(1, LARGEST, LARGEST, HARDEST);
     let mut state = fresh.state;
     state.table[0] = Slot {
@@ -93,7 +102,7 @@ fn counter_case() {
     let frame = [2, 100, 200, 30];
     let mut buf = [0; 16];
     let a = writer::write(state, &frame, &mut buf, 0);
-    say_written(b"counter 7", a, &buf);
+    say_written(page, out, b"counter 7", a, &buf)
 }
 
 fn after_p1() -> WriterState {
@@ -111,67 +120,112 @@ fn write_p2(buf: &mut [u8]) -> Written {
     writer::write(state, &frame, buf, AT)
 }
 
-fn room_cases() {
+fn room_cases(page: &mut [u8], out: Out) -> Out {
     let mut short = [FILLED; AT + 47];
     let refused = write_p2(&mut short);
-    say_written(b"P2 with 47", refused, &short);
+    let a = say_written(page, out, b"P2 with 47", refused, &short);
     let mut enough = [FILLED; AT + 48];
     let written = write_p2(&mut enough);
-    say_written(b"P2 with 48", written, &enough);
+    say_written(page, a, b"P2 with 48", written, &enough)
 }
 
-fn say_fresh_writer(a: FreshWriter) {
+fn say_fresh_writer(page: &mut [u8], out: Out, a: FreshWriter) -> Out {
     let verdict = a.verdict;
     let state = a.state;
-    words::say_part(b" writer verdict", verdict.number() as u64);
-    say_writer(state);
+    let b = words::say_part(page, out, b" writer verdict", verdict.number() as u64);
+    say_writer(page, b, state)
 }
 
-fn say_fresh_reader(a: FreshAnswer) {
+fn say_fresh_reader(page: &mut [u8], out: Out, a: FreshAnswer) -> Out {
     let verdict = a.verdict;
     let state = a.state;
-    words::say_part(b" reader verdict", verdict.number() as u64);
-    say_reader(state);
+    let b = words::say_part(page, out, b" reader verdict", verdict.number() as u64);
+    say_reader(page, b, state)
 }
 
-fn setup_case(n: usize) {
-    words::say_part(b"n", n as u64);
-    stream::say(b":");
-    say_fresh_writer(WriterState::fresh(n, LARGEST, LARGEST, HARDEST));
-    say_fresh_reader(ReaderState::fresh(n, LARGEST, LARGEST, HARDEST));
-    stream::say(b"\n");
+fn say_freshes(page: &mut [u8], out: Out, n: usize) -> Out {
+    let a = say_fresh_writer(page, out, WriterState::fresh(n, LARGEST, LARGEST, HARDEST));
+    say_fresh_reader(page, a, ReaderState::fresh(n, LARGEST, LARGEST, HARDEST))
 }
 
-fn pod_case(name: &[u8], bytes: &[u8]) {
-    stream::say(name);
-    stream::say(b":");
-    let s = words::feed(PodState::fresh(), bytes, false);
+fn setup_case(page: &mut [u8], out: Out, n: usize) -> Out {
+    let a = words::say_part(page, out, b"n", n as u64);
+    let b = stream::say(page, a, b":");
+    let c = say_freshes(page, b, n);
+    stream::say(page, c, b"\n")
+}
+
+fn setup_cases(page: &mut [u8], out: Out) -> Out {
+    let a = setup_case(page, out, 0);
+    let b = setup_case(page, a, 1);
+    let c = setup_case(page, b, 16);
+    setup_case(page, c, 17)
+}
+
+fn say_name(page: &mut [u8], out: Out, name: &[u8]) -> Out {
+    let a = stream::say(page, out, name);
+    stream::say(page, a, b":")
+}
+
+// By itself, since an array that is lent is known to have its length, which spares a proof that a field does.
+fn say_held(page: &mut [u8], out: Out, count: usize, held: &[u8; 5]) -> Out {
+    let a = words::say_part(page, out, b" count", count as u64);
+    say_all_bytes(page, a, held)
+}
+
+fn pod_case(page: &mut [u8], out: Out, name: &[u8], bytes: &[u8]) -> Out {
+    let a = say_name(page, out, name);
+    let fed = words::feed(page, a, PodState::fresh(), bytes, false);
+    let said = fed.out;
+    let s = fed.state;
     let held = s.bytes;
-    words::say_part(b" count", s.count as u64);
-    stream::say(b" bytes");
-    words::say_bytes(&held);
-    stream::say(b"\n");
+    say_held(page, said, s.count, &held)
 }
 
-fn pod_cases() {
-    pod_case(b"FA 00 00", &[0xfa, 0x00, 0x00]);
-    pod_case(b"FE 81", &[0xfe, 0x81]);
-    pod_case(b"FF 10", &[0xff, 0x10]);
-    pod_case(b"F7 05 01 2C 00 C8", &[0xf7, 0x05, 0x01, 0x2c, 0x00, 0xc8]);
-    pod_case(b"75", &[0x75]);
-    pod_case(b"F5", &[0xf5]);
-    pod_case(b"00", &[0x00]);
-    pod_case(b"76", &[0x76]);
-    pod_case(b"80", &[0x80]);
-    pod_case(b"F6", &[0xf6]);
+fn report_cases(page: &mut [u8], out: Out) -> Out {
+    let a = pod_case(page, out, b"FA 00 00", &[0xfa, 0x00, 0x00]);
+    let b = pod_case(page, a, b"FE 81", &[0xfe, 0x81]);
+    let c = pod_case(page, b, b"FF 10", &[0xff, 0x10]);
+    pod_case(
+        page,
+        c,
+        b"F7 05 01 2C 00 C8",
+        &[0xf7, 0x05, 0x01, 0x2c, 0x00, 0xc8],
+    )
+}
+
+fn key_cases(page: &mut [u8], out: Out) -> Out {
+    let a = pod_case(page, out, b"75", &[0x75]);
+    pod_case(page, a, b"F5", &[0xf5])
+}
+
+fn bad_cases(page: &mut [u8], out: Out) -> Out {
+    let a = pod_case(page, out, b"00", &[0x00]);
+    let b = pod_case(page, a, b"76", &[0x76]);
+    let c = pod_case(page, b, b"80", &[0x80]);
+    pod_case(page, c, b"F6", &[0xf6])
+}
+
+fn pod_cases(page: &mut [u8], out: Out) -> Out {
+    let a = report_cases(page, out);
+    let b = key_cases(page, a);
+    bad_cases(page, b)
+}
+
+fn answer(page: &mut [u8], out: Out) -> Out {
+    let a = counter_case(page, out);
+    let b = pod_cases(page, a);
+    let c = room_cases(page, b);
+    setup_cases(page, c)
 }
 
 fn main() {
-    counter_case();
-    pod_cases();
-    room_cases();
-    setup_case(0);
-    setup_case(1);
-    setup_case(16);
-    setup_case(17);
+    let mut page = io::buffer();
+    let begun = stream::begin(b"bench_sheet");
+    if begun.status != stream::ACCEPTED {
+        stream::finish(&page, begun, b"bench_sheet");
+        return;
+    }
+    let out = answer(&mut page, begun);
+    stream::finish(&page, out, b"bench_sheet");
 }

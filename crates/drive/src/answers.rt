@@ -11,67 +11,72 @@ use panel::SlotNumber;
 use pod::PodState;
 use reader::ReaderState;
 use reader::RunAnswer;
+use stream::Out;
 use writer::WriterState;
 use writer::Written;
 ghost use mathlib.Core.Path.{_≡_};
 ghost use lib.ListN.{length};
 
-fn fresh(ns: &[u64]) {
+fn fresh(page: &mut [u8], out: Out, ns: &[u64]) -> Out {
     let s = states::setup_of(ns);
     let a = ReaderState::fresh(s.n, s.x, s.y, s.pressure);
     let verdict = a.verdict;
     let state = a.state;
-    say::verdict(verdict);
-    say::reader_state(state);
+    let o = say::verdict(page, out, verdict);
+    say::reader_state(page, o, state)
 }
 
-fn new(ns: &[u64]) {
+fn new(page: &mut [u8], out: Out, ns: &[u64]) -> Out {
     let s = states::setup_of(ns);
     let a = WriterState::fresh(s.n, s.x, s.y, s.pressure);
     let verdict = a.verdict;
     let state = a.state;
-    say::verdict(verdict);
-    say::writer_state(state);
+    let o = say::verdict(page, out, verdict);
+    say::writer_state(page, o, state)
 }
 
-fn ran(a: RunAnswer) {
+fn ran(page: &mut [u8], out: Out, a: RunAnswer) -> Out {
     let verdict = a.verdict;
     let state = a.state;
     let counts = a.counts;
-    say::verdict(verdict);
-    say::reader_state(state);
-    say::counts(counts);
+    let o = say::verdict(page, out, verdict);
+    let p = say::reader_state(page, o, state);
+    say::counts(page, p, counts)
 }
 
-fn run(ns: &[u64]) {
+fn run(page: &mut [u8], out: Out, ns: &[u64]) -> Out {
     let mut bytes = [0u8; NUMBERS];
     let count = states::bytes_of(ns, READER, &mut bytes);
-    ran(reader::run(states::reader_of(ns), &bytes[..count]));
+    ran(
+        page,
+        out,
+        reader::run(states::reader_of(ns), &bytes[..count]),
+    )
 }
 
-fn one(ns: &[u64]) {
+fn one(page: &mut [u8], out: Out, ns: &[u64]) -> Out {
     let e = records::Event {
         kind: states::half(ns, READER),
         code: states::half(ns, READER + 1),
         value: states::natural(ns, READER + 2),
     };
-    ran(reader::read_one(states::reader_of(ns), e));
+    ran(page, out, reader::read_one(states::reader_of(ns), e))
 }
 
-fn load(ns: &[u64]) {
+fn load(page: &mut [u8], out: Out, ns: &[u64]) -> Out {
     let mut image = [0i32; NUMBERS];
     let count = states::frame_of(ns, READER + 1, &mut image);
     let current = SlotNumber(states::number(ns, READER) as usize);
     let a = reader::load(states::reader_of(ns), &image[..count], current);
     let verdict = a.verdict;
     let state = a.state;
-    say::verdict(verdict);
-    say::reader_state(state);
+    let o = say::verdict(page, out, verdict);
+    say::reader_state(page, o, state)
 }
 
-fn ask(ns: &[u64]) {
+fn ask(page: &mut [u8], out: Out, ns: &[u64]) -> Out {
     let slot = SlotNumber(states::number(ns, READER) as usize);
-    say::slot_answer(reader::ask(states::reader_of(ns), slot));
+    say::slot_answer(page, out, reader::ask(states::reader_of(ns), slot))
 }
 
 // Marks, so that a byte that was touched shows.
@@ -87,75 +92,92 @@ fn marks() -> [u8; BUFFER]
     buf
 }
 
-fn written(a: Written) {
+fn written(page: &mut [u8], out: Out, a: Written) -> Out {
     let verdict = a.verdict;
     let state = a.state;
-    say::verdict(verdict);
-    say::writer_state(state);
-    say::number(a.count);
-    words::say_number(a.changed as u64);
-    say::number(a.need);
+    let o = say::verdict(page, out, verdict);
+    let p = say::writer_state(page, o, state);
+    let q = say::number(page, p, a.count);
+    let r = words::say_number(page, q, a.changed as u64);
+    say::number(page, r, a.need)
 }
 
-fn write_into(ns: &[u64], frame: &[i32], buf: &mut [u8]) {
+fn write_into(page: &mut [u8], out: Out, ns: &[u64], frame: &[i32], buf: &mut [u8]) -> Out {
     let position = states::number(ns, WRITER) as usize;
     let a = writer::write(states::writer_of(ns), frame, buf, position);
-    written(a);
-    stream::say(b" :");
-    words::say_bytes(buf);
+    let o = written(page, out, a);
+    let p = stream::say(page, o, b" :");
+    words::say_bytes(page, p, buf)
 }
 
-fn write(ns: &[u64]) {
+fn write(page: &mut [u8], out: Out, ns: &[u64]) -> Out {
     let mut frame = [0i32; NUMBERS];
     let count = states::frame_of(ns, WRITER + 2, &mut frame);
     let mut buf = marks();
-    let size = states::within(states::number(ns, WRITER + 1) as usize, &buf);
-    write_into(ns, &frame[..count], &mut buf[..size]);
+    let size = stream::within(states::number(ns, WRITER + 1) as usize, &buf);
+    write_into(page, out, ns, &frame[..count], &mut buf[..size])
 }
 
-fn good(ns: &[u64]) {
+fn good(page: &mut [u8], out: Out, ns: &[u64]) -> Out {
     if reader::state_ok(states::reader_of(ns)) {
-        stream::say(b"1");
-    } else {
-        stream::say(b"0");
+        return stream::say(page, out, b"1");
     }
+    stream::say(page, out, b"0")
+}
+
+// The pod and the output after a byte.
+struct Stepped {
+    state: PodState,
+    out: Out,
 }
 
 // The answer to one byte; between two of them stands a stroke.
-fn step(state: PodState, byte: u8, first: bool) -> PodState {
-    if !first {
-        stream::say(b" / ");
-    }
+fn step(page: &mut [u8], s: Stepped, byte: u8, between: &[u8]) -> Stepped {
+    let state = s.state;
+    let out = s.out;
     let a = pod::step(state, byte);
     let next = a.state;
     let report = a.report;
-    say::pod_state(next);
-    stream::say(b" ");
-    words::say_report(report);
-    next
-}
-
-fn pod_bytes(ns: &[u64]) {
-    let mut state = states::pod_of(ns);
-    let mut i = POD;
-    while i < ns.len() {
-        state = step(state, states::byte(ns, i), i == POD);
-        i += 1;
+    let o = stream::say(page, out, between);
+    let p = say::pod_state(page, o, next);
+    let q = stream::say(page, p, b" ");
+    Stepped {
+        state: next,
+        out: words::say_report(page, q, report),
     }
 }
 
-pub fn answer(call: Call, ns: &[u64]) {
+fn other_bytes(page: &mut [u8], first: Stepped, ns: &[u64]) -> Out {
+    let mut s = first;
+    let mut i: usize = POD + 1;
+    while i < ns.len() {
+        s = step(page, s, states::byte(ns, i), b" / ");
+        i += 1;
+    }
+    s.out
+}
+
+fn pod_bytes(page: &mut [u8], out: Out, ns: &[u64]) -> Out {
+    let begun = Stepped {
+        state: states::pod_of(ns),
+        out,
+    };
+    let first = step(page, begun, states::byte(ns, POD), b"");
+    other_bytes(page, first, ns)
+}
+
+pub fn answer(page: &mut [u8], out: Out, call: Call, ns: &[u64]) -> Out {
     match call {
-        Call::Fresh => fresh(ns),
-        Call::New => new(ns),
-        Call::Run => run(ns),
-        Call::One => one(ns),
-        Call::Load => load(ns),
-        Call::Ask => ask(ns),
-        Call::Good => good(ns),
-        Call::Write => write(ns),
-        Call::Start => say::pod_state(PodState::fresh()),
-        Call::Pod => pod_bytes(ns),
-        Call::None => {}
+        Call::Fresh => fresh(page, out, ns),
+        Call::New => new(page, out, ns),
+        Call::Run => run(page, out, ns),
+        Call::One => one(page, out, ns),
+        Call::Load => load(page, out, ns),
+        Call::Ask => ask(page, out, ns),
+        Call::Good => good(page, out, ns),
+        Call::Write => write(page, out, ns),
+        Call::Start => say::pod_state(page, out, PodState::fresh()),
+        Call::Pod => pod_bytes(page, out, ns),
+        Call::None => out,
     }
 }

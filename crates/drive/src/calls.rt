@@ -40,18 +40,52 @@ pub const NUMBERS: usize = 12000;
 
 pub const BUFFER: usize = 4096;
 
-pub fn call_of(letter: u8) -> Call {
+const BLANK: u8 = 32;
+
+// Whether a line's word at `start` is the name: a blank follows it.
+fn is(line: &[u8], start: usize, name: &[u8]) -> bool {
+    let mut at = start;
+    let mut i: usize = 0;
+    while i < name.len() {
+        if at >= line.len() {
+            return false;
+        }
+        if line[at] != name[i] {
+            return false;
+        }
+        at += 1;
+        i += 1;
+    }
+    if at >= line.len() {
+        return false;
+    }
+    line[at] == BLANK
+}
+
+fn named(line: &[u8], start: usize, name: &[u8], call: Call) -> Call {
+    if is(line, start, name) {
+        return call;
+    }
+    Call::None
+}
+
+// The call that a line's word at `start` names. The names differ in their first letters.
+pub fn call_of(line: &[u8], start: usize) -> Call {
+    if start >= line.len() {
+        return Call::None;
+    }
+    let letter = line[start];
     match letter {
-        b'f' => Call::Fresh,
-        b'n' => Call::New,
-        b'r' => Call::Run,
-        b'o' => Call::One,
-        b'l' => Call::Load,
-        b'a' => Call::Ask,
-        b'g' => Call::Good,
-        b'w' => Call::Write,
-        b's' => Call::Start,
-        b'p' => Call::Pod,
+        b'f' => named(line, start, b"fresh", Call::Fresh),
+        b'n' => named(line, start, b"new", Call::New),
+        b'r' => named(line, start, b"run", Call::Run),
+        b'o' => named(line, start, b"one", Call::One),
+        b'l' => named(line, start, b"load", Call::Load),
+        b'a' => named(line, start, b"ask", Call::Ask),
+        b'g' => named(line, start, b"good", Call::Good),
+        b'w' => named(line, start, b"write", Call::Write),
+        b's' => named(line, start, b"start", Call::Start),
+        b'p' => named(line, start, b"pod", Call::Pod),
         _ => Call::None,
     }
 }

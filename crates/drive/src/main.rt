@@ -5,45 +5,49 @@ mod numbers;
 mod say;
 mod states;
 
+use stream::Out;
+
 const NEWLINE: u8 = 10;
 
 const BLANK: u8 = 32;
 
-// How much of a line is held, and whether it was too long to be.
-struct Held {
+// The output, how much of a line is held, and whether it was too long to be.
+struct Script {
+    out: Out,
     count: usize,
     long: bool,
 }
 
-fn none_held() -> Held {
-    Held {
+// No line is held.
+fn next_line(out: Out) -> Script {
+    Script {
+        out,
         count: 0,
         long: false,
     }
 }
 
+fn bad_line(page: &mut [u8], out: Out) -> Out {
+    stream::say(page, out.marked(stream::REFUSED), b"bad line\n")
+}
+
 // Answers a line that ends in a blank.
-fn answer_line(line: &[u8], ns: &mut [u64]) {
+fn answer_line(page: &mut [u8], out: Out, line: &[u8], ns: &mut [u64]) -> Out {
     let start = numbers::find(line, 0, false);
-    if start >= line.len() {
-        stream::say(b"bad line\n");
-        return;
-    }
-    let call = calls::call_of(line[start]);
+    let call = calls::call_of(line, start);
     let from = numbers::find(line, start, true);
     let found = numbers::numbers_of(call, line, from, ns);
     let count = found.count;
     if !found.good {
-        stream::say(b"bad line\n");
-        return;
+        return bad_line(page, out);
     }
-    answers::answer(call, &ns[..count]);
-    stream::say(b"\n");
+    let o = answers::answer(page, out, call, &ns[..count]);
+    stream::say(page, o, b"\n")
 }
 
 // An empty line, or one that begins with #. The blank at the end is counted.
-fn passed_over(line: &[u8], held: Held) -> bool {
-    if held.count < 2 {
+fn passed_over(line: &[u8], count: usize) -> bool {
+    if count < 2 {
         return true;
     }
     if line.len() == 0 {
@@ -53,79 +57,116 @@ fn passed_over(line: &[u8], held: Held) -> bool {
 }
 
 // One byte more of a line.
-fn keep(b: u8, line: &mut [u8], held: Held) -> Held {
-    let count = held.count;
+fn keep(b: u8, line: &mut [u8], s: Script) -> Script {
+    let out = s.out;
+    let count = s.count;
     if count < line.len() {
         line[count] = b;
-        return Held {
+        return Script {
+            out,
             count: count + 1,
-            long: held.long,
+            long: s.long,
         };
     }
-    Held { count, long: true }
+    Script {
+        out,
+        count,
+        long: true,
+    }
 }
 
 // The end of a line is kept as a blank, so that its last number ends as the others do.
-fn end_line(line: &mut [u8], ns: &mut [u64], begun: Held) {
-    let held = keep(BLANK, line, begun);
-    if passed_over(line, held) {
-        return;
+fn end_line(page: &mut [u8], s: Script, line: &mut [u8], ns: &mut [u64]) -> Out {
+    let held = keep(BLANK, line, s);
+    let out = held.out;
+    if passed_over(line, held.count) {
+        return out;
     }
     if held.long {
-        stream::say(b"bad line\n");
-        return;
+        return bad_line(page, out);
     }
-    let count = states::within(held.count, line);
-    answer_line(&line[..count], ns);
+    let count = stream::within(held.count, line);
+    answer_line(page, out, &line[..count], ns)
 }
 
 // One byte of the script.
-fn take(b: u8, line: &mut [u8], ns: &mut [u64], held: Held) -> Held {
+fn take(page: &mut [u8], s: Script, b: u8, line: &mut [u8], ns: &mut [u64]) -> Script {
     if b == NEWLINE {
-        end_line(line, ns, held);
-        return none_held();
+        return next_line(end_line(page, s, line, ns));
     }
-    keep(b, line, held)
+    keep(b, line, s)
 }
 
-fn take_all(bytes: &[u8], line: &mut [u8], ns: &mut [u64], held0: Held) -> Held {
-    let mut held = held0;
+fn take_all(
+    page: &mut [u8],
+    begun: Script,
+    bytes: &[u8],
+    line: &mut [u8],
+    ns: &mut [u64],
+) -> Script {
+    let mut s = begun;
     let mut i: usize = 0;
     while i < bytes.len() {
-        held = take(bytes[i], line, ns, held);
+        s = take(page, s, bytes[i], line, ns);
         i += 1;
     }
-    held
+    s
 }
 
 // A line that a failed read cut off is not answered: nobody knows what it was.
-fn end(line: &mut [u8], ns: &mut [u64], held: Held, failed: bool) {
+fn end(page: &mut [u8], s: Script, line: &mut [u8], ns: &mut [u64], failed: bool) -> Out {
     if failed {
-        stream::warn(b"drive: a read failed\n");
-        return;
+        let out = s.out;
+        return stream::read_failed(out, b"drive");
     }
-    end_line(line, ns, held);
+    end_line(page, s, line, ns)
 }
 
-// A proved loop has to end, and nothing says that the input does: the turns are counted down from a number that no run uses up.
-fn drive(bytes: &mut [u8], line: &mut [u8], ns: &mut [u64]) {
-    let mut held = none_held();
+// What came is answered before more is waited for.
+fn flushed(page: &[u8], s: Script) -> Script {
+    let out = s.out;
+    Script {
+        out: stream::flush(page, out),
+        count: s.count,
+        long: s.long,
+    }
+}
+
+// A proved loop has to end, and nothing says that the input does: the turns are counted down from a number that no run uses up. A failed write ends it at once.
+fn drive(page: &mut [u8], begun: Out, bytes: &mut [u8], line: &mut [u8], ns: &mut [u64]) -> Out {
+    let mut s = next_line(begun);
     let mut turns = u64::MAX;
     while turns > 0 {
+        let out = s.out;
+        if out.broken {
+            return out;
+        }
         let f = stream::some(bytes);
         let n = f.n;
         if n == 0 {
-            end(line, ns, held, f.failed);
-            return;
+            return end(page, s, line, ns, f.failed);
         }
-        held = take_all(&bytes[..n], line, ns, held);
+        let taken = take_all(page, s, &bytes[..n], line, ns);
+        s = flushed(page, taken);
         turns -= 1;
     }
+    s.out
+}
+
+fn answer(page: &mut [u8], begun: Out) -> Out {
+    let mut bytes = io::large_buffer();
+    let mut line = io::large_buffer();
+    let mut ns = [0u64; calls::NUMBERS];
+    drive(page, begun, &mut bytes, &mut line, &mut ns)
 }
 
 fn main() {
-    let mut bytes = io::buffer();
-    let mut line = io::large_buffer();
-    let mut ns = [0u64; calls::NUMBERS];
-    drive(&mut bytes, &mut line, &mut ns);
+    let mut page = io::large_buffer();
+    let begun = stream::begin(b"drive");
+    if begun.status != stream::ACCEPTED {
+        stream::finish(&page, begun, b"drive");
+        return;
+    }
+    let out = answer(&mut page, begun);
+    stream::finish(&page, out, b"drive");
 }

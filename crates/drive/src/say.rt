@@ -1,4 +1,4 @@
-// States and answers as runs of numbers on standard output, in the order that the script's lines have them, each number after a blank.
+// States and answers as runs of numbers on the page, in the order that the script's lines have them, each number after a blank.
 use panel::RECORDS;
 use panel::Setup;
 use panel::Slot;
@@ -8,92 +8,89 @@ use reader::Counts;
 use reader::Mode;
 use reader::ReaderState;
 use reader::SlotAnswer;
+use stream::Out;
 use writer::WriterState;
 
 // An answer's first number.
-pub fn verdict(v: Verdict) {
-    stream::say_number(v.number() as u64);
+pub fn verdict(page: &mut [u8], out: Out, v: Verdict) -> Out {
+    stream::say_number(page, out, v.number() as u64)
 }
 
-pub fn number(n: usize) {
-    words::say_number(n as u64);
+pub fn number(page: &mut [u8], out: Out, n: usize) -> Out {
+    words::say_number(page, out, n as u64)
 }
 
-fn setup(s: Setup) {
-    number(s.n);
-    words::say_number(s.x as u64);
-    words::say_number(s.y as u64);
-    words::say_number(s.pressure as u64);
+fn setup(page: &mut [u8], out: Out, s: Setup) -> Out {
+    let a = number(page, out, s.n);
+    let b = words::say_number(page, a, s.x as u64);
+    let c = words::say_number(page, b, s.y as u64);
+    words::say_number(page, c, s.pressure as u64)
 }
 
-fn table(t: [Slot; RECORDS]) {
-    words::say_slots(t, RECORDS, b" ", false);
+fn table(page: &mut [u8], out: Out, t: [Slot; RECORDS]) -> Out {
+    words::say_table(page, out, t, b" ")
 }
 
-fn mode(m: Mode) {
+fn mode(page: &mut [u8], out: Out, m: Mode) -> Out {
     match m {
-        Mode::Following => stream::say(b" 0"),
-        Mode::Dropped => stream::say(b" 1"),
-        Mode::Stale => stream::say(b" 2"),
+        Mode::Following => stream::say(page, out, b" 0"),
+        Mode::Dropped => stream::say(page, out, b" 1"),
+        Mode::Stale => stream::say(page, out, b" 2"),
     }
 }
 
-pub fn reader_state(s: ReaderState) {
+pub fn reader_state(page: &mut [u8], out: Out, s: ReaderState) -> Out {
     let u = s.setup;
     let current = s.current;
     let m = s.mode;
     let shown = s.shown;
     let pending = s.pending;
-    setup(u);
-    number(current.0);
-    mode(m);
-    table(shown);
-    table(pending);
+    let a = setup(page, out, u);
+    let b = number(page, a, current.0);
+    let c = mode(page, b, m);
+    let d = table(page, c, shown);
+    table(page, d, pending)
 }
 
-pub fn writer_state(s: WriterState) {
+pub fn writer_state(page: &mut [u8], out: Out, s: WriterState) -> Out {
     let u = s.setup;
     let current = s.current;
     let t = s.table;
-    setup(u);
-    number(current.0);
-    words::say_number(s.counter as u64);
-    table(t);
+    let a = setup(page, out, u);
+    let b = number(page, a, current.0);
+    let c = words::say_number(page, b, s.counter as u64);
+    table(page, c, t)
 }
 
 // A pod's state begins its line.
-pub fn pod_state(s: PodState) {
+pub fn pod_state(page: &mut [u8], out: Out, s: PodState) -> Out {
     let bytes = s.bytes;
-    stream::say_number(s.count as u64);
-    words::say_number(bytes[0] as u64);
-    words::say_number(bytes[1] as u64);
-    words::say_number(bytes[2] as u64);
-    words::say_number(bytes[3] as u64);
-    words::say_number(bytes[4] as u64);
+    let a = stream::say_number(page, out, s.count as u64);
+    words::say_bytes(page, a, &bytes)
 }
 
-pub fn counts(c: Counts) {
-    number(c.shown);
-    number(c.skipped);
-    number(c.bad);
-    number(c.ignored);
+pub fn counts(page: &mut [u8], out: Out, c: Counts) -> Out {
+    let a = number(page, out, c.shown);
+    let b = number(page, a, c.skipped);
+    let d = number(page, b, c.bad);
+    number(page, d, c.ignored)
 }
 
-fn contact(s: Slot) {
-    stream::say(b"contact ");
-    words::say_slot(s, b" ");
+fn contact(page: &mut [u8], out: Out, s: Slot) -> Out {
+    let a = stream::say(page, out, b"contact ");
+    words::say_slot(page, a, s, b" ")
 }
 
-fn refused(v: Verdict) {
-    words::say_part(b"refused", v.number() as u64);
+fn refused(page: &mut [u8], out: Out, v: Verdict) -> Out {
+    words::say_part(page, out, b"refused", v.number() as u64)
 }
 
-pub fn slot_answer(a: SlotAnswer) {
+pub fn slot_answer(page: &mut [u8], out: Out, a: SlotAnswer) -> Out {
     match a {
-        SlotAnswer::Contact(s) => contact(s),
-        SlotAnswer::Empty => stream::say(b"empty"),
-        SlotAnswer::Unknown => stream::say(b"unknown"),
-        SlotAnswer::NoSuchSlot => stream::say(b"none"),
-        SlotAnswer::Refused(v) => refused(v),
+        SlotAnswer::Contact(s) => contact(page, out, s),
+        SlotAnswer::Empty => stream::say(page, out, b"empty"),
+        SlotAnswer::Unknown => stream::say(page, out, b"unknown"),
+        SlotAnswer::NoSuchSlot => stream::say(page, out, b"none"),
+        SlotAnswer::Refused(v) => refused(page, out, v),
     }
 }

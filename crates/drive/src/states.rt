@@ -148,13 +148,3 @@ pub fn frame_of(ns: &[u64], from: usize, out: &mut [i32]) -> usize
     }
     count
 }
-
-// A count of a buffer's bytes, which number i or a line says: 0 where the buffer has fewer.
-pub fn within(count: usize, buf: &[u8]) -> usize
-    ensures { λ r. ⌜ Counts r (now (buf .entry)) ⌝ }
-{
-    if count > buf.len() {
-        return 0;
-    }
-    count
-}

@@ -9,6 +9,7 @@ use panel::SlotNumber;
 use reader::ReaderState;
 use reader::SlotAnswer;
 use records::Event;
+use stream::Out;
 use writer::WriterState;
 
 // The load may rise only while a finger is known to hold the key. A reader that lost track answers Unknown, and that is not a finger.
@@ -24,39 +25,55 @@ fn may_lift(state: ReaderState) -> bool
     }
 }
 
-fn tell(when: &[u8], state: ReaderState) {
-    stream::say(when);
+fn tell(page: &mut [u8], out: Out, when: &[u8], state: ReaderState) -> Out {
+    let a = stream::say(page, out, when);
     if may_lift(state) {
-        stream::say(b": lift\n");
-    } else {
-        stream::say(b": do not lift\n");
+        return stream::say(page, a, b": lift\n");
     }
+    stream::say(page, a, b": do not lift\n")
 }
 
-fn main() {
-    // A panel of one slot. Its frame says kind, x, y and pressure; kind 1 is a finger on the slot.
+// The reader after the events of a frame with one finger.
+fn with_finger(before: ReaderState) -> ReaderState {
+    // The frame of a panel of one slot: kind, x, y and pressure. Kind 1 is a finger on the slot.
     let frame = [1, 100, 200, 30];
     let mut events = [0u8; 40];
-    let fresh_writer = WriterState::fresh(1, 4000, 4000, 255);
-    let panel_side = fresh_writer.state;
+    let fresh = WriterState::fresh(1, 4000, 4000, 255);
+    let state = fresh.state;
     // Every answer has a verdict; this one is Accepted, and count is 5.
-    writer::write(panel_side, &frame, &mut events, 0);
-
-    let fresh_reader = ReaderState::fresh(1, 4000, 4000, 255);
-    let before = fresh_reader.state;
-    tell(b"before any event", before);
-
+    writer::write(state, &frame, &mut events, 0);
     let read = reader::run(before, &events);
-    let held = read.state;
-    tell(b"a finger is down", held);
+    read.state
+}
 
-    // Linux says SYN_DROPPED where events were lost: the finger may have been lifted since.
+// Linux says SYN_DROPPED where events were lost: the finger may have been lifted since.
+fn with_loss(before: ReaderState) -> ReaderState {
     let loss = Event {
         kind: records::SYN,
         code: records::DROPPED,
         value: 0,
     };
-    let after = reader::read_one(held, loss);
-    let lost = after.state;
-    tell(b"events were lost", lost);
+    let read = reader::read_one(before, loss);
+    read.state
+}
+
+fn tell_all(page: &mut [u8], out: Out) -> Out {
+    let fresh = ReaderState::fresh(1, 4000, 4000, 255);
+    let before = fresh.state;
+    let held = with_finger(before);
+    let lost = with_loss(held);
+    let a = tell(page, out, b"before any event", before);
+    let b = tell(page, a, b"a finger is down", held);
+    tell(page, b, b"events were lost", lost)
+}
+
+fn main() {
+    let mut page = io::buffer();
+    let begun = stream::begin(b"hold_to_lift");
+    if begun.status != stream::ACCEPTED {
+        stream::finish(&page, begun, b"hold_to_lift");
+        return;
+    }
+    let out = tell_all(&mut page, begun);
+    stream::finish(&page, out, b"hold_to_lift");
 }

@@ -21,6 +21,11 @@ impl TrackingId {
 // How many slot records a table holds.
 pub const RECORDS: usize = 16;
 
+// The most that a setup may give as the largest x and y, and as the largest pressure.
+pub const MOST_POSITION: usize = 32767;
+
+pub const MOST_PRESSURE: usize = 255;
+
 // The numbers of a slot are unsigned but for the id: only good numbers are ever held, and a test against a largest value is one comparison.
 pub struct Slot {
     pub id: TrackingId,
@@ -143,13 +148,13 @@ pub fn setup_ok(s: Setup) -> bool
     if !between(s.n, RECORDS) {
         return false;
     }
-    if !between(s.x as usize, 32767) {
+    if !between(s.x as usize, MOST_POSITION) {
         return false;
     }
-    if !between(s.y as usize, 32767) {
+    if !between(s.y as usize, MOST_POSITION) {
         return false;
     }
-    between(s.pressure as usize, 255)
+    between(s.pressure as usize, MOST_PRESSURE)
 }
 
 pub fn id_ok(v: i32) -> bool

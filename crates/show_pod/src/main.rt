@@ -1,67 +1,86 @@
-// Shows pod reports: standard input is pod bytes of any length, standard output a line for each answer but "more", and at the end
-// of input `more` where a report is unfinished. A failed read is not the end of input: it is said on standard error.
-use libc::STDIN_FILENO;
+// Shows pod reports: standard input is pod bytes of any length, standard output a line for each answer but "more"; at the end of input `more` where a report is unfinished, or `input lost` where a read failed.
 use pod::PodState;
+use stream::Out;
 
-// The state after a read, and whether reading goes on or has failed.
+// The pod and the output after a read, and whether to read on.
 struct Turn {
     state: PodState,
+    out: Out,
     again: bool,
-    failed: bool,
 }
 
-fn read_some(state: PodState) -> Turn {
-    let mut buf = io::buffer();
-    let got = libc::read(STDIN_FILENO, &mut buf);
-    if got < 0 {
+// The read failed, or the input ended: inside a report that is said.
+fn end(page: &mut [u8], out: Out, state: PodState, failed: bool) -> Turn {
+    if failed {
+        let a = stream::read_failed(out, b"show_pod");
         return Turn {
             state,
+            out: stream::say(page, a, b"input lost\n"),
             again: false,
-            failed: true,
         };
     }
-    if got == 0 {
+    if state.count == 0 {
         return Turn {
             state,
+            out,
             again: false,
-            failed: false,
         };
     }
-    let n = io::count(got, &buf);
-    let next = words::feed(state, &buf[..n], true);
+    Turn {
+        state,
+        out: stream::say(page, out, b"more\n"),
+        again: false,
+    }
+}
+
+// What came is answered before more is waited for.
+fn read_some(page: &mut [u8], out: Out, state: PodState) -> Turn {
+    let mut buf = io::large_buffer();
+    let f = stream::some(&mut buf);
+    let n = f.n;
+    if n == 0 {
+        return end(page, out, state, f.failed);
+    }
+    let fed = words::feed(page, out, state, &buf[..n], true);
+    let next = fed.state;
+    let said = fed.out;
     Turn {
         state: next,
+        out: stream::flush(page, said),
         again: true,
-        failed: false,
     }
 }
 
-// A proved loop has to end, and nothing says that the input does: the turns are counted down from a number that no run uses up.
-fn read_all(state: PodState) -> Turn {
+// A proved loop has to end, and nothing says that the input does: the turns are counted down from a number that no run uses up. A failed write ends it at once.
+fn read_all(page: &mut [u8], begun: Out) -> Out {
     let mut turn = Turn {
-        state,
+        state: PodState::fresh(),
+        out: begun,
         again: true,
-        failed: false,
     };
     let mut turns = u64::MAX;
     while turns > 0 {
-        let s = turn.state;
-        turn = read_some(s);
-        if !turn.again {
-            return turn;
+        let out = turn.out;
+        if out.broken {
+            return out;
         }
+        if !turn.again {
+            return out;
+        }
+        let state = turn.state;
+        turn = read_some(page, out, state);
         turns -= 1;
     }
-    turn
+    turn.out
 }
 
 fn main() {
-    let turn = read_all(PodState::fresh());
-    if turn.failed {
-        stream::warn(b"show_pod: a read failed\n");
+    let mut page = io::large_buffer();
+    let begun = stream::begin(b"show_pod");
+    if begun.status != stream::ACCEPTED {
+        stream::finish(&page, begun, b"show_pod");
         return;
     }
-    if turn.state.count != 0 {
-        stream::say(b"more\n");
-    }
+    let out = read_all(&mut page, begun);
+    stream::finish(&page, out, b"show_pod");
 }

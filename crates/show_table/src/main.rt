@@ -1,13 +1,18 @@
 // Document 01's small program: reads a setup and event records from standard input and shows what a fresh reader makes of them.
+ghost use mathlib.Core.Bool.{true};
+ghost use mathlib.Core.Path.{_≡_};
+use header::Header;
 use panel::Verdict;
+use reader::Counts;
 use reader::Mode;
 use reader::ReaderState;
+use stream::Out;
 
-fn say_mode(m: Mode) {
+fn say_mode(page: &mut [u8], out: Out, m: Mode) -> Out {
     match m {
-        Mode::Following => stream::say(b"following "),
-        Mode::Dropped => stream::say(b"dropped "),
-        Mode::Stale => stream::say(b"stale "),
+        Mode::Following => stream::say(page, out, b"following "),
+        Mode::Dropped => stream::say(page, out, b"dropped "),
+        Mode::Stale => stream::say(page, out, b"stale "),
     }
 }
 
@@ -19,118 +24,196 @@ fn is_following(m: Mode) -> bool {
     }
 }
 
-fn say_state(s: ReaderState) {
+fn say_state(page: &mut [u8], out: Out, s: ReaderState) -> Out {
     let m = s.mode;
     let current = s.current;
-    say_mode(m);
-    stream::say_number(current.0 as u64);
-    stream::say(b"\n");
-    if is_following(m) {
-        let shown = s.shown;
-        let setup = s.setup;
-        words::say_slots(shown, setup.n, b" ", true);
+    let a = say_mode(page, out, m);
+    let b = stream::say_number(page, a, current.0 as u64);
+    let c = stream::say(page, b, b"\n");
+    if !is_following(m) {
+        return c;
     }
+    let shown = s.shown;
+    let setup = s.setup;
+    words::say_lines(page, c, shown, setup.n)
 }
 
-// The state after a turn, whether the records ended inside one, and whether there is more to read or the read failed.
-struct Turn {
+// How the reading stands: the reader; how many records it read while following, and how many of them it skipped; the bytes of a record that is cut; whether there is more, or a read failed.
+struct Reading {
     state: ReaderState,
-    ragged: bool,
+    followed: u64,
+    skipped: u64,
+    rest: usize,
     again: bool,
     failed: bool,
 }
 
-// A failed read is a loss and not the end of input: nobody knows what was lost with it.
-fn lose(s: ReaderState) -> Turn {
-    let loss = records::Event {
-        kind: records::SYN,
-        code: records::DROPPED,
-        value: 0,
-    };
-    stream::warn(b"show_table: a read failed: counted as SYN_DROPPED\n");
-    let a = reader::read_one(s, loss);
+// The counts are for a hint alone, so they may wrap.
+fn read_records(r: Reading, bytes: &[u8]) -> Reading {
+    let s = r.state;
+    let a = reader::run(s, bytes);
     let state = a.state;
-    Turn {
+    let counts: Counts = a.counts;
+    let followed = std::num::wrapping_sub_u64((bytes.len() / 8) as u64, counts.ignored as u64);
+    Reading {
         state,
-        ragged: false,
-        again: true,
-        failed: true,
-    }
-}
-
-// A buffer is filled but at the end or where a read fails, so its whole records are all there are: a cut one is ragged at the end, and lost with a failed read.
-fn feed_some(s: ReaderState) -> Turn {
-    let mut buf = io::buffer();
-    let f = stream::fill(&mut buf);
-    let n = f.n;
-    let whole = n - n % 8;
-    let a = reader::run(s, &buf[..whole]);
-    let state = a.state;
-    if f.failed {
-        return lose(state);
-    }
-    Turn {
-        state,
-        ragged: n % 8 != 0,
-        again: !f.ended,
+        followed: std::num::wrapping_add_u64(r.followed, followed),
+        skipped: std::num::wrapping_add_u64(r.skipped, counts.skipped as u64),
+        rest: 0,
+        again: false,
         failed: false,
     }
 }
 
-// A proved loop has to end, and nothing says that the input does: the turns are counted down from a number that no run uses up. Two failed reads in a row end it.
-fn feed_all(s: ReaderState) -> Turn {
-    let mut turn = Turn {
+// A buffer's whole records. It is full while there is more, so a record is cut only at the end or by a failed read: one that two reads bring is whole here.
+fn read_some(r: Reading) -> Reading
+    ensures { λ q. ⌜ (q .again ≡ true → q .rest ≡ 0) ⌝ }
+{
+    let mut buf = io::large_buffer();
+    let f = stream::fill(&mut buf);
+    let n = f.n;
+    let rest = n % 8;
+    let whole = n - rest;
+    let q = read_records(r, &buf[..whole]);
+    let state = q.state;
+    if f.failed {
+        return Reading {
+            state,
+            followed: q.followed,
+            skipped: q.skipped,
+            rest,
+            again: false,
+            failed: true,
+        };
+    }
+    if f.ended {
+        return Reading {
+            state,
+            followed: q.followed,
+            skipped: q.skipped,
+            rest,
+            again: false,
+            failed: false,
+        };
+    }
+    Reading {
+        state,
+        followed: q.followed,
+        skipped: q.skipped,
+        rest,
+        again: true,
+        failed: false,
+    }
+}
+
+// A proved loop has to end, and nothing says that the input does: the turns are counted down from a number that no run uses up.
+fn read_all(s: ReaderState) -> Reading {
+    let mut r = Reading {
         state: s,
-        ragged: false,
+        followed: 0,
+        skipped: 0,
+        rest: 0,
         again: true,
         failed: false,
     };
     let mut turns = u64::MAX;
     while turns > 0 {
-        let state = turn.state;
-        let failed = turn.failed;
-        turn = feed_some(state);
-        if !turn.again {
-            return turn;
-        }
-        if failed & turn.failed {
-            return turn;
+        r = read_some(r);
+        if !r.again {
+            return r;
         }
         turns -= 1;
     }
-    turn
+    r
 }
 
-fn show(s: ReaderState) {
-    let t = feed_all(s);
-    if t.ragged {
-        stream::say_refused(Verdict::Ragged);
-        return;
+// A failed read is a loss and not the end of input: nobody knows what was lost with it.
+fn lose(s: ReaderState) -> ReaderState {
+    let loss = records::Event {
+        kind: records::SYN,
+        code: records::DROPPED,
+        value: 0,
+    };
+    let a = reader::read_one(s, loss);
+    a.state
+}
+
+// Where most records are skipped, they may be Linux's own, with a time before each; such a table can look right.
+// Three fifths: two of three are times, and a panel that sends a mouse's events beside its own has half of them skipped.
+fn hint(out: Out, followed: u64, skipped: u64) -> Out {
+    if followed < 3 {
+        return out;
     }
-    let state = t.state;
-    say_state(state);
+    let taken = std::num::wrapping_sub_u64(followed, skipped);
+    if skipped < std::num::wrapping_add_u64(taken, taken / 2 + taken % 2) {
+        return out;
+    }
+    stream::warn(
+        out,
+        b"show_table: most records were skipped: Linux's struct input_event has 24 bytes, and only the last 8 are a record here\n",
+    )
+}
+
+fn refuse_rest(page: &mut [u8], out: Out, rest: usize) -> Out {
+    let a = stream::say_refused(page, out, Verdict::Ragged);
+    let b = stream::warn(a, b"show_table: the last record is cut: ");
+    let c = stream::warn_number(b, rest as u64);
+    stream::warn(c, b" of 8 bytes\n")
+}
+
+fn show(page: &mut [u8], out: Out, s: ReaderState) -> Out {
+    let r = read_all(s);
+    let state = r.state;
+    if r.failed {
+        let a = stream::read_failed(out, b"show_table");
+        let b = stream::warn(
+            a,
+            b"show_table: input was lost, which counts as SYN_DROPPED\n",
+        );
+        let c = hint(b, r.followed, r.skipped);
+        return say_state(page, c, lose(state));
+    }
+    if r.rest != 0 {
+        return refuse_rest(page, out, r.rest);
+    }
+    let d = hint(out, r.followed, r.skipped);
+    say_state(page, d, state)
+}
+
+fn refuse_setup(page: &mut [u8], out: Out, h: Header) -> Out {
+    let a = stream::say_refused(page, out, Verdict::Setup);
+    header::explain(a, b"show_table", h)
+}
+
+fn after_setup(page: &mut [u8], out: Out, h: Header) -> Out {
+    if h.count < header::BYTES {
+        return refuse_setup(page, out, h);
+    }
+    let a = ReaderState::fresh(h.n as usize, h.x, h.y, h.pressure);
+    let v = a.verdict;
+    if v.number() != 0 {
+        return refuse_setup(page, out, h);
+    }
+    let state = a.state;
+    show(page, out, state)
+}
+
+fn answer(page: &mut [u8], out: Out) -> Out {
+    let h = header::read();
+    if h.failed {
+        let a = stream::read_failed(out, b"show_table");
+        return after_setup(page, a, h);
+    }
+    after_setup(page, out, h)
 }
 
 fn main() {
-    let mut head = [0u8; 16];
-    let f = stream::fill(&mut head);
-    if f.failed {
-        stream::warn(b"show_table: a read failed before the setup was whole\n");
-    }
-    if f.n < 16 {
-        stream::say_refused(Verdict::Setup);
+    let mut page = io::buffer();
+    let begun = stream::begin(b"show_table");
+    if begun.status != stream::ACCEPTED {
+        stream::finish(&page, begun, b"show_table");
         return;
     }
-    let n = records::join32(head[0], head[1], head[2], head[3]);
-    let x = records::join32(head[4], head[5], head[6], head[7]);
-    let y = records::join32(head[8], head[9], head[10], head[11]);
-    let pressure = records::join32(head[12], head[13], head[14], head[15]);
-    let a = ReaderState::fresh(n as usize, x, y, pressure);
-    let v = a.verdict;
-    if v.number() != 0 {
-        stream::say_refused(v);
-        return;
-    }
-    let state = a.state;
-    show(state);
+    let out = answer(&mut page, begun);
+    stream::finish(&page, out, b"show_table");
 }

@@ -1,10 +1,19 @@
-// Standard streams for the programs: a buffer filled from standard input, and words and numbers said on standard output.
+// Standard streams for the programs: input into a buffer, output collected on a page, words on standard error, and the status that a program ends with.
+// docs/PROGRAMS.md has what a user sees of it.
+mod status;
+
+ghost use mathlib.Core.Bool.{false};
+ghost use mathlib.Core.Path.{_≡_};
+ghost use Prim.Native.Nat.{_<_};
+ghost use lib.ListN.{length};
 ghost use Rattle.io.specs.Counts.{Counts};
 use libc::STDERR_FILENO;
 use libc::STDIN_FILENO;
 use libc::STDOUT_FILENO;
+pub use status::begin;
+pub use status::finish;
 
-// How many bytes a fill put at the start of the buffer, and why it stopped if the buffer is not full.
+// How many bytes a read put at the start of the buffer, and why it stopped if there are no more.
 pub struct Filled {
     pub n: usize,
     pub ended: bool,
@@ -14,6 +23,7 @@ pub struct Filled {
 // Fills a buffer until it is full, the input ends or a read fails. io::read_full does not tell the last two apart, and a failed read is a loss.
 pub fn fill(buf: &mut [u8]) -> Filled
     ensures { λ r. ⌜ Counts (r .n) (now (buf .exit)) ⌝ }
+    ensures { λ r. ⌜ (r .ended ≡ false → r .failed ≡ false → r .n ≡ length (now (buf .exit))) ⌝ }
 {
     let mut done: usize = 0;
     while done < buf.len() {
@@ -55,21 +65,106 @@ pub fn some(buf: &mut [u8]) -> Filled
     }
 }
 
-pub fn say(text: &[u8]) {
-    io::write_all(STDOUT_FILENO, text);
+// What a program ends with; the higher one counts.
+pub const ACCEPTED: u8 = 0;
+
+pub const REFUSED: u8 = 1;
+
+pub const FAILED: u8 = 2;
+
+// How many bytes at the start of a page are not written yet, whether a write failed, after which no other is made, and the status so far.
+pub struct Out {
+    pub held: usize,
+    pub broken: bool,
+    pub status: u8,
 }
 
-// A word on standard error, where standard output carries data.
-pub fn warn(text: &[u8]) {
-    io::write_all(STDERR_FILENO, text);
+impl Out {
+    // Something was refused, or a stream failed.
+    pub fn marked(self, status: u8) -> Out {
+        if self.status < status {
+            return Out {
+                held: self.held,
+                broken: self.broken,
+                status,
+            };
+        }
+        self
+    }
+
+    // Nothing more can be written: there is a hole.
+    pub fn spoiled(self) -> Out {
+        Out {
+            held: 0,
+            broken: true,
+            status: FAILED,
+        }
+    }
 }
 
-pub fn say_number(n: u64) {
-    io::print_decimal(STDOUT_FILENO, n);
+// A count of a buffer's bytes, as far as the buffer has them.
+pub fn within(count: usize, buf: &[u8]) -> usize
+    ensures { λ r. ⌜ Counts r (now (buf .entry)) ⌝ }
+{
+    if count > buf.len() {
+        return 0;
+    }
+    count
 }
 
-pub fn warn_number(n: u64) {
-    io::print_decimal(STDERR_FILENO, n);
+// Writes what is held. What comes after a hole is worse than nothing, so a failed write is the last.
+pub fn flush(page: &[u8], out: Out) -> Out {
+    if out.broken {
+        return out;
+    }
+    let n = within(out.held, page);
+    if io::write_all(STDOUT_FILENO, &page[..n]) {
+        return Out {
+            held: 0,
+            broken: false,
+            status: out.status,
+        };
+    }
+    out.spoiled()
+}
+
+// A full page is written before the next byte.
+fn roomy(page: &[u8], out: Out) -> Out {
+    if out.held < page.len() {
+        return out;
+    }
+    flush(page, out)
+}
+
+fn put(page: &mut [u8], out: Out, b: u8) -> Out {
+    let o = roomy(page, out);
+    let held = o.held;
+    if held < page.len() {
+        page[held] = b;
+        return Out {
+            held: held + 1,
+            broken: o.broken,
+            status: o.status,
+        };
+    }
+    // A page of no bytes holds none.
+    o.spoiled()
+}
+
+pub fn say(page: &mut [u8], out: Out, text: &[u8]) -> Out {
+    let mut o = out;
+    let mut i: usize = 0;
+    while i < text.len() {
+        o = put(page, o, text[i]);
+        i += 1;
+    }
+    o
+}
+
+pub fn say_number(page: &mut [u8], out: Out, n: u64) -> Out {
+    let mut digits = [0u8; 20];
+    let k = io::decimal(n, &mut digits);
+    say(page, out, &digits[..k])
 }
 
 // A number without its sign.
@@ -80,16 +175,45 @@ fn size(v: i32) -> u64 {
     panel::nat_of(v) as u64
 }
 
-pub fn say_signed(v: i32) {
+pub fn say_signed(page: &mut [u8], out: Out, v: i32) -> Out {
     if v < 0 {
-        say(b"-");
+        let o = say(page, out, b"-");
+        return say_number(page, o, size(v));
     }
-    say_number(size(v));
+    say_number(page, out, size(v))
 }
 
 // The one line of a refusal.
-pub fn say_refused(verdict: panel::Verdict) {
-    say(b"refused ");
-    say_number(verdict.number() as u64);
-    say(b"\n");
+pub fn say_refused(page: &mut [u8], out: Out, verdict: panel::Verdict) -> Out {
+    let o = say(page, out.marked(REFUSED), b"refused ");
+    let p = say_number(page, o, verdict.number() as u64);
+    say(page, p, b"\n")
+}
+
+// Words on standard error, at once. That they could not be said is a failed stream.
+pub fn warn(out: Out, text: &[u8]) -> Out {
+    if io::write_all(STDERR_FILENO, text) {
+        return out;
+    }
+    out.marked(FAILED)
+}
+
+pub fn warn_number(out: Out, n: u64) -> Out {
+    if io::print_decimal(STDERR_FILENO, n) {
+        return out;
+    }
+    out.marked(FAILED)
+}
+
+pub fn warn_refused(out: Out, verdict: panel::Verdict) -> Out {
+    let o = warn(out.marked(REFUSED), b"refused ");
+    let p = warn_number(o, verdict.number() as u64);
+    warn(p, b"\n")
+}
+
+// A failed read, said with the system's words for it: to be called before any other call can fail.
+pub fn read_failed(out: Out, name: &[u8]) -> Out {
+    let o = warn(out.marked(FAILED), name);
+    os::fail(b": a read from standard input failed");
+    o
 }

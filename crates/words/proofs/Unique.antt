@@ -1,7 +1,8 @@
--- The one promise of this crate leaves no choice: the law is of the contract itself. Assumes nothing.
-use mathlib.Core.Path.{sym, _∙_}
-use Rattle.model.specs.Unique.{OneAnswer}
+-- What the one promise of this crate settles: the state after the bytes. What was said is a stream's, and of that nothing is promised. The law is of the contract itself. Assumes nothing.
+use Rattle.model.specs.Unique.{Gives}
+use Rattle.pod.specs.Seen.{stateAfter}
+use denote.Ref.{now}
 use Rattle.words.proofs.feed.Reads as feed
 
-pub feed-one : OneAnswer feed.Learnt
-feed-one κs a r q s t e g = e ∙ sym g
+pub feed-state : Gives feed.Learnt (λ κs r. r .state) (λ κs a. stateAfter (a .1 .1 .0) (now (a .1 .1 .1 .0)))
+feed-state κs a r s e = e

@@ -1,4 +1,4 @@
-// Pod reports, tables and numbers in words, on standard output: what the programs have in common. It promises nothing about a stream but that saying ends.
+// Pod reports, tables and numbers in words, on a page of standard output: what the programs have in common. It promises nothing about a stream but that saying ends.
 ghost use mathlib.Core.Path.{_≡_};
 ghost use Rattle.pod.specs.Seen.{stateAfter};
 use panel::RECORDS;
@@ -10,78 +10,82 @@ use pod::PodState;
 use pod::Relative;
 use pod::Report;
 use pod::Stick;
+use stream::Out;
 
 // A number after a blank.
-pub fn say_number(n: u64) {
-    stream::say(b" ");
-    stream::say_number(n);
+pub fn say_number(page: &mut [u8], out: Out, n: u64) -> Out {
+    let a = stream::say(page, out, b" ");
+    stream::say_number(page, a, n)
 }
 
-fn say_signed(v: i8) {
-    stream::say(b" ");
-    stream::say_signed(v as i32);
+fn wide(v: i8) -> i32 {
+    v as i32
 }
 
-fn say_bit(on: bool) {
+fn say_signed(page: &mut [u8], out: Out, v: i8) -> Out {
+    let a = stream::say(page, out, b" ");
+    stream::say_signed(page, a, wide(v))
+}
+
+fn say_bit(page: &mut [u8], out: Out, on: bool) -> Out {
     if on {
-        stream::say(b" 1");
-    } else {
-        stream::say(b" 0");
+        return stream::say(page, out, b" 1");
     }
+    stream::say(page, out, b" 0")
 }
 
 // A number with its name.
-pub fn say_part(name: &[u8], n: u64) {
-    stream::say(name);
-    say_number(n);
+pub fn say_part(page: &mut [u8], out: Out, name: &[u8], n: u64) -> Out {
+    let a = stream::say(page, out, name);
+    say_number(page, a, n)
 }
 
-fn say_stick(s: Stick) {
-    say_bit(s.trigger);
-    say_number(s.position as u64);
+fn say_stick(page: &mut [u8], out: Out, s: Stick) -> Out {
+    let a = say_bit(page, out, s.trigger);
+    say_number(page, a, s.position as u64)
 }
 
-fn say_absolute(r: Absolute) {
-    say_part(b"absolute", r.flags as u64);
-    say_number(r.x as u64);
-    say_number(r.y as u64);
+fn say_absolute(page: &mut [u8], out: Out, r: Absolute) -> Out {
+    let a = say_part(page, out, b"absolute", r.flags as u64);
+    let b = say_number(page, a, r.x as u64);
+    say_number(page, b, r.y as u64)
 }
 
-fn say_relative(r: Relative) {
-    stream::say(b"relative");
-    say_bit(r.left);
-    say_bit(r.right);
-    say_signed(r.dx);
-    say_signed(r.dy);
+fn say_relative(page: &mut [u8], out: Out, r: Relative) -> Out {
+    let a = stream::say(page, out, b"relative");
+    let b = say_bit(page, a, r.left);
+    let c = say_bit(page, b, r.right);
+    let d = say_signed(page, c, r.dx);
+    say_signed(page, d, r.dy)
 }
 
-fn say_both(r: BothSticks) {
+fn say_both(page: &mut [u8], out: Out, r: BothSticks) -> Out {
     let stick0 = r.stick0;
     let stick1 = r.stick1;
-    stream::say(b"sticks");
-    say_stick(stick0);
-    say_stick(stick1);
+    let a = stream::say(page, out, b"sticks");
+    let b = say_stick(page, a, stick0);
+    say_stick(page, b, stick1)
 }
 
-fn say_one(r: OneStick) {
+fn say_one(page: &mut [u8], out: Out, r: OneStick) -> Out {
     let stick = r.stick;
-    say_part(b"stick", r.which as u64);
-    say_stick(stick);
+    let a = say_part(page, out, b"stick", r.which as u64);
+    say_stick(page, a, stick)
 }
 
 // An answer's words, "more" too, without a line's end.
-pub fn say_report(report: Report) {
+pub fn say_report(page: &mut [u8], out: Out, report: Report) -> Out {
     match report {
-        Report::More => stream::say(b"more"),
-        Report::KeyDown(r) => say_part(b"down", r.key as u64),
-        Report::KeyUp(r) => say_part(b"up", r.key as u64),
-        Report::Absolute(r) => say_absolute(r),
-        Report::Relative(r) => say_relative(r),
-        Report::BothSticks(r) => say_both(r),
-        Report::OneStick(r) => say_one(r),
-        Report::BadByte(_) => stream::say(b"bad byte"),
-        Report::BadReport => stream::say(b"bad report"),
-        Report::Refused => stream::say(b"refused 2"),
+        Report::More => stream::say(page, out, b"more"),
+        Report::KeyDown(r) => say_part(page, out, b"down", r.key as u64),
+        Report::KeyUp(r) => say_part(page, out, b"up", r.key as u64),
+        Report::Absolute(r) => say_absolute(page, out, r),
+        Report::Relative(r) => say_relative(page, out, r),
+        Report::BothSticks(r) => say_both(page, out, r),
+        Report::OneStick(r) => say_one(page, out, r),
+        Report::BadByte(_) => stream::say(page, out, b"bad byte"),
+        Report::BadReport => stream::say(page, out, b"bad report"),
+        Report::Refused => stream::say(page, out, b"refused 2"),
     }
 }
 
@@ -101,79 +105,106 @@ fn is_more(report: Report) -> bool {
 }
 
 // An answer on a line of its own, unless it is "more"; or all answers on one line.
-fn say_answer(report: Report, lines: bool) {
+fn say_answer(page: &mut [u8], out: Out, report: Report, lines: bool) -> Out {
     if !lines {
-        stream::say(b" ");
-        say_report(report);
-        stream::say(b";");
-        return;
+        let a = stream::say(page, out, b" ");
+        let b = say_report(page, a, report);
+        return stream::say(page, b, b";");
     }
-    if !is_more(report) {
-        say_report(report);
-        stream::say(b"\n");
+    if is_more(report) {
+        return out;
     }
+    let c = say_report(page, out, report);
+    stream::say(page, c, b"\n")
 }
 
-// Says the answer of each byte and gives back the state after the last.
-pub fn feed(state: PodState, bytes: &[u8], lines: bool) -> PodState
-    ensures { λ r. ⌜ r ≡ stateAfter state (now (bytes .entry)) ⌝ }
+// The state after some bytes, and the output with their answers.
+pub struct Fed {
+    pub state: PodState,
+    pub out: Out,
+}
+
+// Says the answer of each byte.
+pub fn feed(page: &mut [u8], out: Out, state: PodState, bytes: &[u8], lines: bool) -> Fed
+    ensures { λ r. ⌜ r .state ≡ stateAfter state (now (bytes .entry)) ⌝ }
 {
     let mut s = state;
+    let mut o = out;
     let mut i = 0;
     while i < bytes.len() {
         let answer = pod::step(s, bytes[i]);
         let report = answer.report;
-        say_answer(report, lines);
+        o = say_answer(page, o, report, lines);
         let next = answer.state;
         s = next;
         i += 1;
     }
-    s
+    Fed { state: s, out: o }
+}
+
+fn say_next(page: &mut [u8], out: Out, between: &[u8], n: u32) -> Out {
+    let a = stream::say(page, out, between);
+    stream::say_number(page, a, n as u64)
 }
 
 // A slot's four numbers with something between them.
-pub fn say_slot(s: Slot, between: &[u8]) {
+pub fn say_slot(page: &mut [u8], out: Out, s: Slot, between: &[u8]) -> Out {
     let id = s.id;
-    stream::say_signed(id.0);
-    stream::say(between);
-    stream::say_number(s.x as u64);
-    stream::say(between);
-    stream::say_number(s.y as u64);
-    stream::say(between);
-    stream::say_number(s.pressure as u64);
+    let a = stream::say_signed(page, out, id.0);
+    let b = say_next(page, a, between, s.x);
+    let c = say_next(page, b, between, s.y);
+    say_next(page, c, between, s.pressure)
 }
 
-fn say_place(k: usize, s: Slot, between: &[u8], lines: bool) {
-    if lines {
-        stream::say_number(k as u64);
-    }
-    stream::say(b" ");
-    say_slot(s, between);
-    if lines {
-        stream::say(b"\n");
-    }
+// A slot on a line of its own, after its number.
+fn say_line(page: &mut [u8], out: Out, k: usize, s: Slot) -> Out {
+    let a = stream::say_number(page, out, k as u64);
+    let b = stream::say(page, a, b" ");
+    let c = say_slot(page, b, s, b" ");
+    stream::say(page, c, b"\n")
 }
 
-// The first n slots of a table: each on a line of its own after its number, or all on one line.
-pub fn say_slots(table: [Slot; RECORDS], n: usize, between: &[u8], lines: bool) {
+// The first n slots of a table, a line each.
+pub fn say_lines(page: &mut [u8], out: Out, table: [Slot; RECORDS], n: usize) -> Out {
+    let mut o = out;
     let mut k: usize = 0;
     while k < RECORDS {
-        if k < n {
-            say_place(k, table[k], between, lines);
+        if k >= n {
+            return o;
         }
+        o = say_line(page, o, k, table[k]);
         k += 1;
     }
+    o
+}
+
+fn say_place(page: &mut [u8], out: Out, s: Slot, between: &[u8]) -> Out {
+    let a = stream::say(page, out, b" ");
+    say_slot(page, a, s, between)
+}
+
+// A whole table on one line, each slot after a blank.
+pub fn say_table(page: &mut [u8], out: Out, table: [Slot; RECORDS], between: &[u8]) -> Out {
+    let mut o = out;
+    let mut at: usize = 0;
+    while at < RECORDS {
+        o = say_place(page, o, table[at], between);
+        at += 1;
+    }
+    o
 }
 
 // By itself, since a parameter is known to fit its type, which spares a proof that an element of a slice does.
-fn say_byte(b: u8) {
-    say_number(b as u64);
+fn say_byte(page: &mut [u8], out: Out, b: u8) -> Out {
+    say_number(page, out, b as u64)
 }
 
-pub fn say_bytes(bytes: &[u8]) {
-    let mut at: usize = 0;
-    while at < bytes.len() {
-        say_byte(bytes[at]);
-        at += 1;
+pub fn say_bytes(page: &mut [u8], out: Out, bytes: &[u8]) -> Out {
+    let mut o = out;
+    let mut from: usize = 0;
+    while from < bytes.len() {
+        o = say_byte(page, o, bytes[from]);
+        from += 1;
     }
+    o
 }

@@ -1,136 +1,315 @@
 // Writes frames as events: standard input is n, largest x, y and pressure and then frames of 4n numbers, all 32-bit little-endian; standard output is that header and every record written.
-// A refusal is a line on standard error, and the next frame goes on from the state as it was.
+// A refusal is a line on standard error, and the next frame goes on from the state as it was. Input that was lost is passed on as SYN_DROPPED.
+ghost use mathlib.Core.Path.{_≡_};
 ghost use Prim.Native.Nat.{_≤_};
+ghost use lib.ListN.{length, take as first};
+use header::Header;
 use panel::RECORDS;
 use panel::Verdict;
+use stream::Out;
 use writer::WriterState;
 
-// The bytes and the numbers of a frame of 16 slots, and the most bytes of its events.
-const BYTES: usize = 16 * RECORDS;
+// The bytes of a number and of a slot's four, and the numbers of the largest frame.
+const NUMBER: usize = 4;
+
+const ROW: usize = 16;
 
 const NUMBERS: usize = 4 * RECORDS;
 
+// The most bytes that a frame's events take.
 const EVENTS: usize = 640;
 
-fn numbers_of(b: [u8; BYTES]) -> [i32; NUMBERS] {
-    let mut f = [0; NUMBERS];
+// A frame's numbers from its bytes; how many there are.
+fn numbers_of(bytes: &[u8], frame: &mut [i32]) -> usize
+    ensures { λ r. ⌜ (r ≤ length (now (frame .exit))) × (r ≡ length (first r (now (frame .exit)))) ⌝ }
+{
     let mut i: usize = 0;
-    while i < NUMBERS {
-        let at = 4 * i;
-        let v = records::signed_of(records::join32(b[at], b[at + 1], b[at + 2], b[at + 3]));
-        f[i] = v;
+    let mut at: usize = 0;
+    while i < frame.len() {
+        if bytes.len() - at < NUMBER {
+            return i;
+        }
+        frame[i] = records::signed_of(records::join32(
+            bytes[at],
+            bytes[at + 1],
+            bytes[at + 2],
+            bytes[at + 3],
+        ));
         i += 1;
+        at += NUMBER;
     }
-    f
+    i
 }
 
-fn warn_refused(verdict: Verdict) {
-    stream::warn(b"refused ");
-    stream::warn_number(verdict.number() as u64);
-    stream::warn(b"\n");
-}
-
-// The line of a frame's refusal; frames count from 1.
-fn warn_frame(frame: u64, verdict: Verdict) {
-    stream::warn(b"frame ");
-    stream::warn_number(frame);
-    stream::warn(b" ");
-    warn_refused(verdict);
-}
-
-// The state after a frame, and whether another is to be read.
-struct Turn {
+// The writer's state, the output and the number of the frame that comes next, from 1.
+struct Sending {
     state: WriterState,
-    again: bool,
+    out: Out,
+    frame: u64,
 }
 
-// Writes one frame out. No frame has more than 80 events.
-fn send(state: WriterState, frame: &[i32], k: u64) -> WriterState {
-    let mut buf = [0; EVENTS];
-    let a = writer::write(state, frame, &mut buf, 0);
+// The line of a frame's refusal.
+fn warn_frame(out: Out, frame: u64, verdict: Verdict) -> Out {
+    let a = stream::warn(out, b"frame ");
+    let b = stream::warn_number(a, frame);
+    let c = stream::warn(b, b" ");
+    stream::warn_refused(c, verdict)
+}
+
+// A page that has no room left for any frame's events is written.
+fn roomy(page: &[u8], out: Out) -> Out {
+    let held = stream::within(out.held, page);
+    if page.len() - held >= EVENTS {
+        return out;
+    }
+    stream::flush(page, out)
+}
+
+// The output with so many records more, which the writer put on the page.
+fn longer(page: &[u8], out: Out, count: usize) -> Out {
+    let held = stream::within(out.held, page);
+    if count > (page.len() - held) / records::LENGTH {
+        return out.spoiled();
+    }
+    Out {
+        held: held + records::LENGTH * count,
+        broken: out.broken,
+        status: out.status,
+    }
+}
+
+fn send_numbers(page: &mut [u8], s: Sending, frame: &[i32]) -> Sending {
+    let state = s.state;
+    let out = s.out;
+    let o = roomy(page, out);
+    if o.broken {
+        return Sending {
+            state,
+            out: o,
+            frame: s.frame,
+        };
+    }
+    let a = writer::write(state, frame, page, o.held);
+    let next = a.state;
     let verdict = a.verdict;
     if verdict.number() != 0 {
-        warn_frame(k, verdict);
+        return Sending {
+            state: next,
+            out: warn_frame(o, s.frame, verdict),
+            frame: s.frame,
+        };
     }
-    if a.count <= 80 {
-        let size = 8 * a.count;
-        stream::say(&buf[..size]);
+    Sending {
+        state: next,
+        out: longer(page, o, a.count),
+        frame: s.frame,
     }
-    a.state
 }
 
 // One frame. A frame that is cut short goes to the writer as it is, which refuses it by its length.
-fn one_frame(state: WriterState, n: usize, k: u64) -> Turn
-    requires { ⌜ n ≤ 16 ⌝ }
-{
-    let mut bytes = [0; BYTES];
-    let want = 16 * n;
-    let f = stream::fill(&mut bytes[..want]);
-    if f.failed {
-        stream::warn(b"write_frames: a read failed\n");
-    }
-    if f.n == 0 {
-        return Turn {
-            state,
-            again: false,
-        };
-    }
-    let numbers = numbers_of(bytes);
-    let whole = f.n / 4;
-    if NUMBERS < whole {
-        return Turn {
-            state,
-            again: false,
-        };
-    }
-    let next = send(state, &numbers[..whole], k);
-    Turn {
-        state: next,
-        again: f.n == want,
+fn send_frame(page: &mut [u8], s: Sending, bytes: &[u8]) -> Sending {
+    let mut numbers = [0i32; NUMBERS];
+    let count = numbers_of(bytes, &mut numbers);
+    let sent = send_numbers(page, s, &numbers[..count]);
+    let state = sent.state;
+    let out = sent.out;
+    Sending {
+        state,
+        out,
+        frame: std::num::wrapping_add_u64(s.frame, 1),
     }
 }
 
-// A proved loop has to end, and nothing says that the input does: the frames are counted up to a number that no run reaches.
-fn all_frames(first: WriterState, n: usize)
-    requires { ⌜ n ≤ 16 ⌝ }
-{
-    let mut state = first;
-    let mut k: u64 = 1;
-    while k < u64::MAX {
-        let turn = one_frame(state, n, k);
-        if !turn.again {
-            return;
-        }
-        let next = turn.state;
-        state = next;
-        k += 1;
+// Each whole frame of the bytes.
+fn send_frames(page: &mut [u8], s: Sending, bytes: &[u8], want: usize) -> Sending {
+    let mut t = s;
+    let mut at: usize = 0;
+    if want == 0 {
+        return t;
     }
+    while want <= bytes.len() - at {
+        t = send_frame(page, t, &bytes[at..at + want]);
+        at += want;
+    }
+    t
+}
+
+// Moves the bytes of a frame that is not whole yet to the front.
+fn keep(buf: &mut [u8], from: usize, count: usize) -> usize {
+    if from > buf.len() {
+        return 0;
+    }
+    if count > buf.len() - from {
+        return 0;
+    }
+    let mut i: usize = 0;
+    while i < count {
+        buf[i] = buf[from + i];
+        i += 1;
+    }
+    count
+}
+
+// Nobody knows what was lost with the input, so a reader must not go on with the old table.
+fn lose(page: &mut [u8], s: Sending) -> Sending {
+    let state = s.state;
+    let out = s.out;
+    let mut record = [0u8; records::LENGTH];
+    records::put(&mut record, records::SYN, records::DROPPED, 0);
+    let o = stream::say(page, out, &record);
+    Sending {
+        state,
+        out: stream::warn(
+            o,
+            b"write_frames: input was lost, so SYN_DROPPED was sent\n",
+        ),
+        frame: s.frame,
+    }
+}
+
+// How the reading stands after a read: how many bytes of a frame that is not whole yet lie at the front, and whether to read on.
+struct Turn {
+    sending: Sending,
+    held: usize,
+    again: bool,
+}
+
+// What came is sent before more is waited for.
+fn flushed(page: &[u8], s: Sending) -> Sending {
+    let state = s.state;
+    let out = s.out;
+    Sending {
+        state,
+        out: stream::flush(page, out),
+        frame: s.frame,
+    }
+}
+
+// The read failed, or the input ended: inside a frame that is a loss too.
+fn end(page: &mut [u8], s: Sending, bytes: &[u8], failed: bool) -> Sending {
+    if failed {
+        let state = s.state;
+        let out = s.out;
+        let told = Sending {
+            state,
+            out: stream::read_failed(out, b"write_frames"),
+            frame: s.frame,
+        };
+        return lose(page, told);
+    }
+    if bytes.len() == 0 {
+        return s;
+    }
+    let refused = send_frame(page, s, bytes);
+    lose(page, refused)
+}
+
+// The whole frames among what was held and one read more.
+fn take(page: &mut [u8], s: Sending, buf: &mut [u8], total: usize, want: usize) -> Turn {
+    let count = stream::within(total, buf);
+    let sent = send_frames(page, s, &buf[..count], want);
+    if want == 0 {
+        return Turn {
+            sending: sent,
+            held: 0,
+            again: false,
+        };
+    }
+    let rest = count % want;
+    let held = keep(buf, count - rest, rest);
+    let sending = flushed(page, sent);
+    Turn {
+        sending,
+        held,
+        again: true,
+    }
+}
+
+fn read_some(page: &mut [u8], buf: &mut [u8], turn: Turn, want: usize) -> Turn {
+    let s = turn.sending;
+    let from = stream::within(turn.held, buf);
+    let f = stream::some(&mut buf[from..]);
+    if f.n == 0 {
+        return Turn {
+            sending: end(page, s, &buf[..from], f.failed),
+            held: 0,
+            again: false,
+        };
+    }
+    take(page, s, buf, from + f.n, want)
+}
+
+// A proved loop has to end, and nothing says that the input does: the turns are counted down from a number that no run uses up. A failed write ends it at once.
+fn read_all(page: &mut [u8], buf: &mut [u8], s: Sending, want: usize) -> Out {
+    let mut turn = Turn {
+        sending: flushed(page, s),
+        held: 0,
+        again: true,
+    };
+    let mut turns = u64::MAX;
+    while turns > 0 {
+        let sending = turn.sending;
+        let out = sending.out;
+        if out.broken {
+            return out;
+        }
+        if !turn.again {
+            return out;
+        }
+        turn = read_some(page, buf, turn, want);
+        turns -= 1;
+    }
+    let last = turn.sending;
+    last.out
+}
+
+fn refuse_setup(out: Out, h: Header) -> Out {
+    let a = stream::warn_refused(out, Verdict::Setup);
+    header::explain(a, b"write_frames", h)
+}
+
+// By itself, since an array that is lent is known to have its length, which spares a proof that a field does.
+fn say_header(page: &mut [u8], out: Out, bytes: &[u8; header::BYTES]) -> Out {
+    stream::say(page, out, bytes)
+}
+
+fn after_setup(page: &mut [u8], out: Out, h: Header) -> Out {
+    if h.count < header::BYTES {
+        return refuse_setup(out, h);
+    }
+    let n = h.n as usize;
+    let a = WriterState::fresh(n, h.x, h.y, h.pressure);
+    let verdict = a.verdict;
+    if verdict.number() != 0 {
+        return refuse_setup(out, h);
+    }
+    let head = h.bytes;
+    let state = a.state;
+    let s = Sending {
+        state,
+        out: say_header(page, out, &head),
+        frame: 1,
+    };
+    let mut buf = io::large_buffer();
+    read_all(page, &mut buf, s, ROW * n)
+}
+
+fn answer(page: &mut [u8], out: Out) -> Out {
+    let h = header::read();
+    if h.failed {
+        let a = stream::read_failed(out, b"write_frames");
+        return after_setup(page, a, h);
+    }
+    after_setup(page, out, h)
 }
 
 fn main() {
-    let mut head = [0u8; 16];
-    let f = stream::fill(&mut head);
-    if f.failed {
-        stream::warn(b"write_frames: a read failed before the setup was whole\n");
-    }
-    if f.n < 16 {
-        warn_refused(Verdict::Setup);
+    let mut page = io::large_buffer();
+    let begun = stream::begin(b"write_frames");
+    if begun.status != stream::ACCEPTED {
+        stream::finish(&page, begun, b"write_frames");
         return;
     }
-    let n = records::join32(head[0], head[1], head[2], head[3]) as usize;
-    let x = records::join32(head[4], head[5], head[6], head[7]);
-    let y = records::join32(head[8], head[9], head[10], head[11]);
-    let pressure = records::join32(head[12], head[13], head[14], head[15]);
-    let a = WriterState::fresh(n, x, y, pressure);
-    let verdict = a.verdict;
-    if verdict.number() != 0 {
-        warn_refused(verdict);
-        return;
-    }
-    stream::say(&head);
-    let first = a.state;
-    // An accepted setup has 16 slots at most; the test spares a proof of it.
-    if n <= RECORDS {
-        all_frames(first, n);
-    }
+    let out = answer(&mut page, begun);
+    stream::finish(&page, out, b"write_frames");
 }

@@ -5,6 +5,9 @@ use crate::script::{Call, LONGEST_LINE, MOST_NUMBERS};
 
 impl Maker {
     pub(super) fn bad_line(&mut self) -> String {
+        if self.random.once_in(8) {
+            return self.near_miss();
+        }
         let call = match self.call() {
             // It has no number to leave out or to change.
             Call::Start => Call::Fresh(self.setup()),
@@ -63,6 +66,24 @@ impl Maker {
         words.join(" ")
     }
 
+    /// A good call but for its word, which a look at less than the whole word takes for the call's name.
+    fn near_miss(&mut self) -> String {
+        // Without this it would be rare, and its line is the only one that a word alone makes good.
+        let call = if self.random.once_in(4) { Call::Start } else { self.call() };
+        let line = call.line();
+        self.tags.clear();
+        self.tag("line: a word that is nearly one");
+        let (name, numbers) = line.split_at(call.name().len());
+        let word = match self.random.below(5) {
+            0 => name[..1].to_string(),
+            1 => name[..name.len() - 1].to_string(),
+            2 => name.to_string() + self.random.pick(&["ly", "s", "0", "-", "#"]),
+            3 => name[..1].to_uppercase() + &name[1..],
+            _ => other_word(&call).to_string(),
+        };
+        word + numbers
+    }
+
     pub(super) fn overfill(&mut self, call: &Call, words: &mut [String]) {
         const ABOVE_ALL: &str = "18446744073709551616";
         const BELOW_ALL: &str = "-9223372036854775809";
@@ -93,5 +114,21 @@ impl Maker {
             (Call::Run { .. } | Call::Good { .. } | Call::Start, _) => (1, "-1"),
         };
         words[place] = number.to_string();
+    }
+}
+
+/// A word of the same first letter.
+fn other_word(call: &Call) -> &'static str {
+    match call {
+        Call::Fresh(_) => "foo",
+        Call::New(_) => "next",
+        Call::Run { .. } => "read",
+        Call::One { .. } => "open",
+        Call::Load { .. } => "list",
+        Call::Ask { .. } => "all",
+        Call::Write { .. } => "wrote",
+        Call::Good { .. } => "get",
+        Call::Start => "stop",
+        Call::Pod { .. } => "put",
     }
 }

@@ -93,6 +93,7 @@ pub const TRIED: &[&str] = &[
     "pod: first byte opens nothing",
     "pod: unused place not 0",
     "line: no such word",
+    "line: a word that is nearly one",
     "line: too few numbers",
     "line: too many numbers",
     "line: a number that its type cannot hold",
@@ -139,7 +140,7 @@ impl Maker {
     }
 
     fn line(&mut self) -> String {
-        if self.random.once_in(40) {
+        if self.random.once_in(35) {
             return self.bad_line();
         }
         let call = self.call();

@@ -57,7 +57,7 @@ impl Maker {
     }
 
     /// Sums with 2^8, 2^16 and 2^32 are good numbers again where they are cut to fewer bits.
-    pub(super) fn bad_n(&mut self, good: u64) -> u64 {
+    pub(crate) fn bad_n(&mut self, good: u64) -> u64 {
         if self.random.once_in(2) {
             return self.random.pick(&[0, 17]);
         }
@@ -74,7 +74,7 @@ impl Maker {
         ])
     }
 
-    pub(super) fn bad_largest(&mut self, good: u32, limit: u32) -> u32 {
+    pub(crate) fn bad_largest(&mut self, good: u32, limit: u32) -> u32 {
         if self.random.once_in(2) {
             return self.random.pick(&[0, limit + 1]);
         }

@@ -1,16 +1,16 @@
--- `take_all` reads no byte past those lent to it. The loop has taken i of them. Assumes nothing.
+-- `take_all` reads no byte past those lent to it. The loop has taken those before i. Assumes nothing.
 use Prim.Native.Nat.{_≤_, _-_}
-use lib.ListN.{length}
 use mathlib.Core.Path.{_≡_}
+use lib.ListN.{length}
 use borrow.Author.Needs.{needs}
 use Rattle.drive.proofs.take_all.Statement.{statement}
 use Rattle.drive.proofs.take_all.Tie as tie
 
 abbrev Inv-loop : tie.InvT-loop
-Inv-loop bytes line₀ ns₀ held₀ i₀ line ns held i = (i ≤ length bytes) × (length line ≡ length line₀) × (length ns ≡ length ns₀)
+Inv-loop page₀ bytes line₀ ns₀ s₀ i₀ page line ns s i = (i ≤ length bytes) × (length page ≡ length page₀) × (length line ≡ length line₀) × (length ns ≡ length ns₀)
 
 abbrev μ-loop : tie.MeasureT-loop
-μ-loop bytes line₀ ns₀ held₀ i₀ line ns held i = length bytes - i
+μ-loop page₀ bytes line₀ ns₀ s₀ i₀ page line ns s i = length bytes - i
 
 loop-holds : tie.Need-loop-holds Inv-loop μ-loop
 loop-holds c = search needs
@@ -36,6 +36,9 @@ same-length c = search needs
 same-length-2 : tie.Need-same-length-2 Inv-loop μ-loop
 same-length-2 c = search needs
 
+same-length-3 : tie.Need-same-length-3 Inv-loop μ-loop
+same-length-3 c = search needs
+
 returns : tie.Need-returns Inv-loop μ-loop
 returns c = search needs
 
@@ -53,4 +56,5 @@ take-all-spec =
     loop-again
     same-length
     same-length-2
+    same-length-3
     returns)

@@ -1,23 +1,36 @@
--- `show_pod::read_all` is safe and ends: nothing has to hold from turn to turn, and the measure is the turns left. Cited by the
--- proof of `main`; assumes nothing.
+-- `show_pod::read_all` ends: the turns fall. Assumes nothing.
+use mathlib.Core.Path.{_≡_}
+use lib.ListN.{length}
 use borrow.Author.Needs.{needs}
 use Rattle.show_pod.proofs.read_all.Statement.{statement}
 use Rattle.show_pod.proofs.read_all.Tie as tie
 
 abbrev Inv-loop : tie.InvT-loop
-Inv-loop turn₀ turns₀ turn turns = Unit {0}
+Inv-loop page₀ turn₀ turns₀ page turn turns = (length page ≡ length page₀)
 
 abbrev μ-loop : tie.MeasureT-loop
-μ-loop turn₀ turns₀ turn turns = turns
+μ-loop page₀ turn₀ turns₀ page turn turns = turns
+
+fresh-requires : tie.Need-fresh-requires Inv-loop μ-loop
+fresh-requires c κs = search needs
 
 loop-holds : tie.Need-loop-holds Inv-loop μ-loop
-loop-holds c = tt
+loop-holds c = search needs
 
-read-some-requires : tie.Need-read-some-requires Inv-loop μ-loop
-read-some-requires c κs = tt
+same-length : tie.Need-same-length Inv-loop μ-loop
+same-length c = search needs
 
 returns : tie.Need-returns Inv-loop μ-loop
-returns c = tt
+returns c = search needs
+
+same-length-2 : tie.Need-same-length-2 Inv-loop μ-loop
+same-length-2 c = search needs
+
+returns-2 : tie.Need-returns-2 Inv-loop μ-loop
+returns-2 c = search needs
+
+read-some-requires : tie.Need-read-some-requires Inv-loop μ-loop
+read-some-requires c κs = search needs
 
 sub-turns : tie.Need-sub-turns Inv-loop μ-loop
 sub-turns c = search needs
@@ -26,10 +39,13 @@ loop-less : tie.Need-loop-less Inv-loop μ-loop
 loop-less c = search needs
 
 loop-again : tie.Need-loop-again Inv-loop μ-loop
-loop-again c = tt
+loop-again c = search needs
 
-returns-2 : tie.Need-returns-2 Inv-loop μ-loop
-returns-2 c = tt
+same-length-3 : tie.Need-same-length-3 Inv-loop μ-loop
+same-length-3 c = search needs
+
+returns-3 : tie.Need-returns-3 Inv-loop μ-loop
+returns-3 c = search needs
 
 pub read-all-spec : {M : Type 1} → statement M
 read-all-spec =
@@ -37,10 +53,15 @@ read-all-spec =
     (tie.spec
     Inv-loop
     μ-loop
+    fresh-requires
     loop-holds
-    read-some-requires
+    same-length
     returns
+    same-length-2
+    returns-2
+    read-some-requires
     sub-turns
     loop-less
     loop-again
-    returns-2)
+    same-length-3
+    returns-3)

@@ -1,8 +1,9 @@
--- `stream::fill` puts as many bytes at the buffer's start as it says. The loop has put `done` of them. Assumes nothing.
+-- `stream::fill` puts as many bytes at the buffer's start as it says, and stops before the buffer is full only where it says why. The loop has put `done` of them. Assumes nothing.
 use Prim.Native.Nat.{_≤_, _-_}
 use native.Mathlib.Omega.{arith}
 use borrow.Author.Needs.{needs}
 use lib.ListN.{length}
+use mathlib.Core.Bool.{false≢true}
 use mathlib.Core.Path.{_≡_, sym}
 use lib.Seq.{length-take-le}
 use Rattle.stream.proofs.fill.Statement.{statement}
@@ -37,7 +38,7 @@ same-length : tie.Need-same-length Inv-loop μ-loop
 same-length c = search needs
 
 returns : tie.Need-returns Inv-loop μ-loop
-returns c = (search needs, sym (length-take-le _ _ (search needs)))
+returns c = ((search needs, sym (length-take-le _ _ (search needs))), λ e f. absurd (false≢true (sym f)))
 
 sub-count : tie.Need-sub-count Inv-loop μ-loop
 sub-count c = search needs
@@ -55,7 +56,7 @@ same-length-2 : tie.Need-same-length-2 Inv-loop μ-loop
 same-length-2 c = search needs
 
 returns-2 : tie.Need-returns-2 Inv-loop μ-loop
-returns-2 c = (search needs, sym (length-take-le _ _ (search needs)))
+returns-2 c = ((search needs, sym (length-take-le _ _ (search needs))), λ e f. absurd (false≢true (sym e)))
 
 add-done : tie.Need-add-done Inv-loop μ-loop
 add-done c = search needs
@@ -70,7 +71,7 @@ same-length-3 : tie.Need-same-length-3 Inv-loop μ-loop
 same-length-3 c = search needs
 
 returns-3 : tie.Need-returns-3 Inv-loop μ-loop
-returns-3 c = (search needs, sym (length-take-le _ _ (search needs)))
+returns-3 c = ((search needs, sym (length-take-le _ _ (search needs))), λ e f. omega arith)
 
 pub fill-spec : {M : Type 1} → statement M
 fill-spec =

@@ -13,13 +13,13 @@ use Rattle.words.proofs.feed.Statement.{statement}
 use Rattle.words.proofs.feed.Tie as tie
 
 abbrev Inv-loop : tie.InvT-loop
-Inv-loop bytes lines s₀ i₀ s i = (i ≤ length bytes) × (stateAfter s₀ bytes ≡ stateAfter s (drop i bytes))
+Inv-loop page₀ bytes lines s₀ o₀ i₀ page s o i = (i ≤ length bytes) × (length page ≡ length page₀) × (stateAfter s₀ bytes ≡ stateAfter s (drop i bytes))
 
 abbrev μ-loop : tie.MeasureT-loop
-μ-loop bytes lines s₀ i₀ s i = length bytes - i
+μ-loop page₀ bytes lines s₀ o₀ i₀ page s o i = length bytes - i
 
 loop-holds : tie.Need-loop-holds Inv-loop μ-loop
-loop-holds c = (search needs, refl)
+loop-holds c = (search needs, refl, refl)
 
 shared-slice-read-step : tie.Need-shared-slice-read-step Inv-loop μ-loop
 shared-slice-read-step c = search needs
@@ -38,18 +38,22 @@ loop-less c = search needs
 
 loop-again : tie.Need-loop-again Inv-loop μ-loop
 loop-again c =
-    let s = c .before .before .before .before .before .loop .s in
-    let i = c .before .before .before .before .before .loop .i in
-    let l = c .before .before .before .before .before .before .before .args .bytes .now in
-    let h : i < length l = omega arith in
-    let stepped : stateAfter s (drop i l) ≡ stateAfter (c .before .before .step .result .state) (drop (i + 1) l) = rw (c .before .before .step .ensures, add-one, drop-cons l i 0 h) (after-one s (getD l i 0) (drop (suc i) l)) in
-    (search needs, c .before .before .before .before .before .loop .inv .1 ∙ stepped)
+    let stepped = c .before .before .before .before .before .step in
+    let turn = c .before .before .before .before .before .before .before .before .loop in
+    let l = c .before .before .before .before .before .before .before .before .before .before .before .args .bytes .now in
+    let h : turn .i < length l = omega arith in
+    let onward : stateAfter (turn .s) (drop (turn .i) l) ≡ stateAfter (stepped .result .state) (drop (turn .i + 1) l) = rw (stepped .ensures, add-one, drop-cons l (turn .i) 0 h) (after-one (turn .s) (getD l (turn .i) 0) (drop (suc (turn .i)) l)) in
+    (search needs, search needs, turn .inv .2 ∙ onward)
+
+same-length : tie.Need-same-length Inv-loop μ-loop
+same-length c = search needs
 
 returns : tie.Need-returns Inv-loop μ-loop
 returns c =
-    let l = c .before .before .before .args .bytes .now in
-    let past : length l ≤ c .before .loop .i = omega arith in
-    sym (c .before .loop .inv .1 ∙ ap (stateAfter (c .before .loop .s)) (drop-of-length-le l past))
+    let turn = c .before .loop in
+    let l = c .before .before .before .before .args .bytes .now in
+    let past : length l ≤ turn .i = omega arith in
+    sym (turn .inv .2 ∙ ap (stateAfter (turn .s)) (drop-of-length-le l past))
 
 pub feed-spec : {M : Type 1} → statement M
 feed-spec =
@@ -64,4 +68,5 @@ feed-spec =
     add-i
     loop-less
     loop-again
+    same-length
     returns)

@@ -1,0 +1,128 @@
+//! The built program as a process: exit status and words, with streams that the system makes fail.
+
+use std::fs::{File, OpenOptions};
+use std::io::Write;
+use std::process::{Command, Output, Stdio};
+use std::sync::{Mutex, MutexGuard, PoisonError};
+
+const SETUP: [u8; 16] = [1, 0, 0, 0, 9, 0, 0, 0, 9, 0, 0, 0, 9, 0, 0, 0];
+
+/// Tests take turns: a process that another one has just begun still holds the pipes of this one, and a closed one would not be closed.
+fn turn() -> MutexGuard<'static, ()> {
+    static ONE: Mutex<()> = Mutex::new(());
+    ONE.lock().unwrap_or_else(PoisonError::into_inner)
+}
+
+fn second(words: &[&str]) -> Command {
+    let mut command = Command::new(env!("CARGO_BIN_EXE_second"));
+    command.args(words).stdout(Stdio::piped()).stderr(Stdio::piped());
+    command
+}
+
+/// Every write to it fails.
+fn full() -> File {
+    OpenOptions::new().write(true).open("/dev/full").unwrap()
+}
+
+fn output(command: &mut Command, bytes: &[u8]) -> Output {
+    let mut child = command.stdin(Stdio::piped()).spawn().unwrap();
+    // A program that ends before it read everything closes its end.
+    let _ = child.stdin.take().unwrap().write_all(bytes);
+    child.wait_with_output().unwrap()
+}
+
+fn check(output: &Output, status: i32, err: &str) {
+    assert_eq!((output.status.code(), String::from_utf8_lossy(&output.stderr).as_ref()), (Some(status), err));
+}
+
+#[test]
+fn accepted_and_refused() {
+    let _turn = turn();
+    let run = |program: &str, bytes: &[u8]| output(&mut second(&[program]), bytes).status.code();
+    let frame = |kind: u8| [&SETUP[..], &[kind, 0, 0, 0], &[0; 12]].concat();
+    assert_eq!(run("show_table", &SETUP), Some(0));
+    assert_eq!(run("show_table", &SETUP[..15]), Some(1));
+    assert_eq!(run("write_frames", &frame(1)), Some(0));
+    assert_eq!(run("write_frames", &frame(3)), Some(1));
+    assert_eq!(run("show_pod", &[0, 0xF7]), Some(0));
+    for name in ["drive", "answer"] {
+        assert_eq!(run(name, b"start\nfresh 0 1 1 1\n"), Some(0));
+        assert_eq!(run(name, b"start\nstop\nstart\n"), Some(1));
+    }
+}
+
+#[test]
+fn records_both_ways() {
+    let _turn = turn();
+    let bytes = output(&mut second(&["records", "encode"]), b"SETUP 1 9 9 9\nX 1\n");
+    check(&bytes, 0, "");
+    let text = output(&mut second(&["records", "decode"]), &bytes.stdout);
+    check(&text, 0, "");
+    assert_eq!(text.stdout, b"SETUP 1 9 9 9\nX 1\n");
+    let wrong = output(&mut second(&["records", "encode"]), b"X 1\nQ 1\n");
+    check(&wrong, 1, "second: line 2: 'Q' is no event\n");
+}
+
+/// A directory can be opened and not be read.
+#[test]
+fn failed_reads() {
+    let _turn = turn();
+    let failed = "a read from standard input failed: Is a directory\n";
+    for (words, said) in [
+        (&["show_table"][..], format!("show_table: {failed}show_table: the setup is cut: 0 of 16 bytes\n")),
+        (
+            &["write_frames"],
+            format!("write_frames: {failed}refused 1\nwrite_frames: the setup is cut: 0 of 16 bytes\n"),
+        ),
+        (&["show_pod"], format!("show_pod: {failed}")),
+        (&["drive"], format!("drive: {failed}")),
+        (&["records", "encode"], format!("second: {failed}")),
+        (&["records", "decode"], format!("second: {failed}")),
+    ] {
+        let output = second(words).stdin(File::open("/").unwrap()).output().unwrap();
+        check(&output, 2, &said);
+    }
+}
+
+#[test]
+fn failed_writes() {
+    let _turn = turn();
+    for (words, name, bytes) in [
+        (&["show_table"][..], "show_table", &SETUP[..]),
+        (&["write_frames"], "write_frames", &SETUP),
+        (&["show_pod"], "show_pod", &[1]),
+        (&["drive"], "drive", b"start\n"),
+        (&["records", "encode"], "second", b"REPORT\n"),
+        (&["records", "decode", "frames"], "second", &SETUP),
+    ] {
+        let said = format!("{name}: a write to standard output failed: ");
+        let on_full = output(second(words).stdout(full()), bytes);
+        check(&on_full, 2, &format!("{said}No space left on device\n"));
+
+        let mut child = second(words).stdin(Stdio::piped()).spawn().unwrap();
+        drop(child.stdout.take());
+        child.stdin.take().unwrap().write_all(bytes).unwrap();
+        let closed = child.wait_with_output().unwrap();
+        if words[0] == "records" {
+            check(&closed, 0, "");
+        } else {
+            check(&closed, 2, &format!("{said}Broken pipe\n"));
+        }
+    }
+    // Standard error too.
+    assert_eq!(output(second(&["show_table"]).stderr(full()), b"").status.code(), Some(2));
+}
+
+#[test]
+fn an_argument_is_one_too_many() {
+    let _turn = turn();
+    for name in ["show_table", "write_frames", "show_pod", "drive"] {
+        let output = output(&mut second(&[name, "a b", "c"]), b"");
+        check(
+            &output,
+            2,
+            &format!("{name}: no argument is taken, and 'a b' is one; a file is given as {name} < FILE\n"),
+        );
+        assert!(output.stdout.is_empty());
+    }
+}
