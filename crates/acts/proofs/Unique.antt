@@ -14,8 +14,8 @@ actFrom E.skip = Skip
 actFrom E.bad = Bad
 actFrom E.report = Report
 actFrom E.loss = Loss
-actFrom (E.slot k) = Select k
-actFrom (E.number zero v) = Id v
+actFrom (E.slot k) = Select (record { 0 = k })
+actFrom (E.number zero v) = Id (record { 0 = v })
 actFrom (E.number (suc zero) v) = X (natAbs v)
 actFrom (E.number (suc (suc zero)) v) = Y (natAbs v)
 actFrom (E.number (suc (suc (suc i))) v) = Pressure (natAbs v)

@@ -10,14 +10,14 @@ ghost use Rattle.panel.specs.Seen.{setupOf, panelSeen};
 ghost use Rattle.records.specs.Seen.{eventOf};
 ghost use Rattle.acts.specs.Seen.{actOf};
 
-// A good number comes as what is stored: the id signed, the others not.
+// A good number comes as what is stored: a slot number, an id, or an unsigned number.
 pub enum Act {
     Skip,
     Bad,
     Report,
     Loss,
-    Select(usize),
-    Id(i32),
+    Select(panel::SlotNumber),
+    Id(panel::TrackingId),
     X(u32),
     Y(u32),
     Pressure(u32),
@@ -42,7 +42,7 @@ fn slot_act(n: usize, value: u32) -> Act
 {
     let k = value as usize;
     if k < n {
-        return Act::Select(k);
+        return Act::Select(panel::SlotNumber(k));
     }
     Act::Bad
 }
@@ -51,10 +51,11 @@ fn id_act(value: u32) -> Act
     ensures { λ r. ⌜ actOf r ≡ cond (fits idField (signedOf value)) (number 0 (signedOf value)) bad ⌝ }
 {
     if value == 4294967295 {
-        return Act::Id(panel::TrackingId::UNUSED);
+        return Act::Id(panel::TrackingId(panel::TrackingId::UNUSED));
     }
     if value <= 65535 {
-        return Act::Id(value as i32);
+        let id = value as i32;
+        return Act::Id(panel::TrackingId(id));
     }
     Act::Bad
 }

@@ -6,10 +6,9 @@ use lib.Dec.{ltb}
 use lib.ListN.{getD}
 use Rattle.model.specs.Panel.{base}
 use Rattle.model.specs.Table.{Slot}
-use Rattle.model.specs.Reader.{Mode, following, dropped, stale}
+use Rattle.model.specs.Reader.{Mode, following, dropped, stale, Lost}
 use Rattle.model.specs.States.{readerGood}
 use Rattle.model.specs.Calls.{askedIn, noSuchSlot, refused, state, askCall}
-use Rattle.model.proofs.Lost.{Lost}
 use Rattle.runs.specs.Seen.{modeOf, seen}
 use Rattle.runs.specs.declared.ReaderState.{ReaderState}
 use Rattle.reader.specs.Seen.{askedFrom}

@@ -70,9 +70,9 @@ pub fn image_table(setup: panel::Setup, image: &[i32]) -> [panel::Slot; panel::R
 }
 
 // Whether an image may be loaded, with this current slot.
-pub fn image_ok(setup: panel::Setup, image: &[i32], current: usize) -> bool
+pub fn image_ok(setup: panel::Setup, image: &[i32], current: panel::SlotNumber) -> bool
     requires { ⌜ setup .n ≤ 16 ⌝ }
-    ensures { λ r. ⌜ r ≡ imageGood (panelSeen setup) (now (image .entry)) current ⌝ }
+    ensures { λ r. ⌜ r ≡ imageGood (panelSeen setup) (now (image .entry)) (current .0) ⌝ }
 {
     if image.len() != 4 * setup.n {
         return false;
@@ -83,5 +83,5 @@ pub fn image_ok(setup: panel::Setup, image: &[i32], current: usize) -> bool
     if !panel::ids_differ(image_table(setup, image)) {
         return false;
     }
-    current < setup.n
+    current.0 < setup.n
 }

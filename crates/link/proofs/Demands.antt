@@ -1,79 +1,39 @@
--- Demands 2 and 3 of the code: from the promises of `writer::write`, `reader::run`, `reader::load` and `reader::ask` alone, in bytes. `Wrote`, `Ran`, `Loaded` and `Asked` are those contracts' own equations, which `wrote-is` and its like check. Cited by docs/PROMISES.md. Assumes nothing.
+-- Demand 2, what is written reads back and what is loaded is shown, and demand 3, of the code: from the promises of the calls alone, in bytes.
+-- Cited by docs/PROMISES.md. Assumes nothing.
 use mathlib.Core.Path.{_≡_, sym, ap, ap₂, _∙_, subst}
-use mathlib.Core.Bool.{true, cond}
+use mathlib.Core.Bool.{cond}
 use mathlib.Core.List.{List, []}
 use Prim.Native.Nat.{ℕ, _*_, _/_, _≤_, _<_}
 use native.Mathlib.Omega.{arith}
 use lib.Dec.{T, eqb}
 use lib.IntN.{ℤ}
 use lib.ListN.{length, take, drop, getD}
-use denote.Ref.{now}
 use Rattle.model.specs.Panel.{base}
 use Rattle.model.specs.Frame.{rowsOf}
 use Rattle.model.specs.Sending.{fewest}
 use Rattle.model.specs.Reader.{following, nothing, oneShown}
-use Rattle.model.specs.States.{readerGood}
-use Rattle.model.specs.Calls.{isAccepted, writeVerdict, writeCall, writeBuffer, runCall, accepted, loadVerdict, loadCall, askedIn, askCall}
+use Rattle.model.specs.Calls.{isAccepted, writeVerdict, writeCall, runCall, accepted, loadVerdict, loadCall, askedIn, askCall}
 use Rattle.model.proofs.Instances.{base-good}
-use Rattle.model.proofs.Lost.{Lost}
-use Rattle.model.proofs.Calls.{unknown-until-load, load-shows}
+use Rattle.model.proofs.Calls.{load-shows}
 use Rattle.model.proofs.Link.{run-of-written, count-is-fewest, no-fewer-records, call-verdict}
 use Rattle.panel.specs.declared.Verdict.the-variants.{Accepted}
 use Rattle.panel.specs.declared.Slot.{Slot}
 use Rattle.panel.specs.Seen.{tableOf, panelSeen, verdictOf}
 use Rattle.panel.proofs.Back.{verdict-seen}
-use Rattle.panel.proofs.Setups.{holds}
 use Rattle.writer.specs.declared.WriterState.{WriterState}
 use Rattle.writer.specs.declared.Written.{Written}
 use Rattle.writer.specs.Seen as W
 use Rattle.writer.proofs.Demands.{answer-seen}
-use Rattle.writer.proofs.write.Reads as write
 use Rattle.runs.specs.declared.Mode.the-variants.{Following}
 use Rattle.runs.specs.declared.ReaderState.{ReaderState}
 use Rattle.runs.specs.declared.RunAnswer.{RunAnswer}
 use Rattle.runs.specs.Seen as R
 use Rattle.runs.specs.Seen.{ranFrom, countsFrom}
 use Rattle.reader.specs.declared.SlotAnswer.{SlotAnswer}
-use Rattle.reader.specs.declared.SlotAnswer.the-variants.{Unknown}
 use Rattle.reader.specs.declared.LoadAnswer.{LoadAnswer}
-use Rattle.reader.specs.Seen.{loadedFrom, askedFrom}
+use Rattle.reader.specs.Seen.{askedFrom}
 use Rattle.reader.proofs.Promises.{run-state, load-state}
-use Rattle.reader.proofs.run.Reads as run
-use Rattle.reader.proofs.load.Reads as load
-use Rattle.reader.proofs.ask.Reads as ask
-
--- What `write` promises of its answer and of the buffer afterwards.
-abbrev pub Wrote : WriterState → List ℤ → ℕ → List ℕ → Written → List ℕ → Type 0
-Wrote s f at buf r after = (r ≡ W.writtenFrom (writeCall base (W.seen s) f at (length buf))) × (after ≡ writeBuffer base (W.seen s) f at buf)
-
--- What `run` promises of its answer.
-abbrev pub Ran : ReaderState → List ℕ → RunAnswer → Type 0
-Ran s bs q = q ≡ ranFrom (runCall base (R.seen s) bs)
-
--- What `load` promises of its answer.
-abbrev pub Loaded : ReaderState → List ℤ → ℕ → LoadAnswer → Type 0
-Loaded s m c q = q ≡ loadedFrom (loadCall base (R.seen s) m c)
-
--- What `ask` promises of its answer.
-abbrev pub Asked : ReaderState → ℕ → SlotAnswer → Type 0
-Asked s k r = r ≡ askedFrom (askCall base (R.seen s) k)
-
--- The contracts themselves, as the toolchain states them, say this of arguments, answer and buffer at exit.
-pub wrote-is : (κs : _) (a : _) (r : Written) (t : _) → write.Learnt κs a r t → Wrote (a .0) (now (a .1 .0)) (a .1 .1 .1 .0) (now (a .1 .1 .0)) r (now (t .1 .1 .0))
-wrote-is κs a r t e = e
-
-pub ran-is : (κs : _) (a : _) (q : RunAnswer) (t : _) → run.Learnt κs a q t → Ran (a .0) (now (a .1 .0)) q
-ran-is κs a q t e = e
-
-pub loaded-is : (κs : _) (a : _) (q : LoadAnswer) (t : _) → load.Learnt κs a q t → Loaded (a .0) (now (a .1 .0)) (a .1 .1 .0 .0) q
-loaded-is κs a q t e = e
-
-pub asked-is : (κs : _) (a : _) (r : SlotAnswer) (t : _) → ask.Learnt κs a r t → Asked (a .0) (a .1 .0 .0) r
-asked-is κs a r t e = e
-
--- A reader of the same setup, table and current slot, following and with nothing pending.
-abbrev pub pupilOf : WriterState → ReaderState
-pupilOf s = record { setup = s .setup; shown = s .table; pending = s .table; current = s .current; mode = Following }
+use Rattle.link.specs.Promises.{Wrote, Ran, Loaded, Asked, pupilOf}
 
 module _ (s : WriterState) (f : List ℤ) (at : ℕ) (buf : List ℕ) (r : Written) (after : List ℕ) (w : Wrote s f at buf r after) (h : r .verdict ≡ Accepted) where
   took : T (isAccepted (writeVerdict base (W.seen s) f at (length buf)))
@@ -113,11 +73,6 @@ pub none-fewer : (s : WriterState) (f : List ℤ) (at : ℕ) (buf : List ℕ) (r
 none-fewer s f at buf r after w h bs q e m t =
     let n : r .count ≡ fewest (s .current .0) (tableOf (s .table)) (tableOf (q .state .shown)) = fewest-events s f at buf r after w h ∙ ap (λ (l : List Slot). fewest (s .current .0) (tableOf (s .table)) (tableOf l)) (sym t) in
     omega (arith, n, none-shorter s bs q e m)
-
--- Demand 2: a well-formed reader that lost track, given any bytes, answers "unknown" for every slot of its panel, until a load.
-pub unknown : (s : ReaderState) (bs : List ℕ) (q : RunAnswer) (k : ℕ) (r : SlotAnswer) → readerGood base (R.seen s) ≡ true → Lost (R.modeOf (s .mode)) → k < s .setup .n
-    → Ran s bs q → Asked (q .state) k r → r ≡ Unknown
-unknown s bs q k r g l b e a = a ∙ ap (λ x. askedFrom (askCall base x k)) (run-state s bs q e) ∙ ap askedFrom (unknown-until-load base (R.seen s) bs k (holds _ g) l b)
 
 -- Demand 2: after an accepted load every slot of the panel is answered from the image's row, a contact with its numbers or empty.
 pub shown-by-load : (s : ReaderState) (m : List ℤ) (c : ℕ) (q : LoadAnswer) (k : ℕ) (r : SlotAnswer) → Loaded s m c q → q .verdict ≡ Accepted → k < s .setup .n → Asked (q .state) k r

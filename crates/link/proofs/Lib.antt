@@ -1,3 +1,17 @@
--- The demands, of the contracts of `write`, `run`, `load` and `ask`, and that what they ask can be met.
+-- What the demands ask, of the contracts of the calls. In this order:
+-- Contracts: the claims that the others speak of are the contracts themselves.
+-- Exact: each refusal's number if and only if its test fails and the earlier ones pass (demand 1).
+-- Demands: what is written reads back (demand 2), in the fewest events (demand 3); what is loaded is shown.
+-- Limits: the changed-slot number's ones and bits, and the most events and bytes of a write.
+-- Cut: a run may be cut between two records, and one record by itself is a run on its eight bytes.
+-- Steady: well-formed states stay well formed, call after call.
+-- Loss: after a reported loss every slot is answered "unknown" until a load is accepted (demand 2).
+-- Cases: what the theorems ask can be met.
+pub mod Contracts
+pub mod Exact
 pub mod Demands
+pub mod Limits
+pub mod Cut
+pub mod Steady
+pub mod Loss
 pub mod Cases

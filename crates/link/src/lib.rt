@@ -1,1 +1,2 @@
-// Demands 2 and 3 said of what the code promises, in bytes: no function, only proofs/Demands over the promises of the crates `writer` and `reader`.
+// What the demands ask, said of what the code promises, in bytes: no function. specs/ has the promises as claims and what a host calls,
+// proofs/ the theorems over them.

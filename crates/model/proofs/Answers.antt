@@ -6,6 +6,8 @@ use Prim.Native.Nat.{ℕ, _%_}
 use lib.Dec.{eqb, ltb}
 use lib.IntN.{ℤ}
 use lib.ListN.{length, getD}
+-- Brought in so that it is checked first: refusals that change places then fail at the law that says when each is given.
+use Rattle.model.proofs.Exact
 use Rattle.model.specs.Panel.{Layout, Setup, setupGood, panelOf}
 use Rattle.model.specs.Events.{Event}
 use Rattle.model.specs.Records.{eventsOf}

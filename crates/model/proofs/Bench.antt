@@ -1,18 +1,24 @@
 -- The bench sheet: the definitions give every row that is marked P, by computing. Assumes nothing.
 use mathlib.Core.Path.{_≡_, refl}
 use mathlib.Core.List.{map}
+use Rattle.model.specs.Panel.{base}
 use Rattle.model.specs.Records.{bitsOf, signedOf, recordBytes, bytesOf, eventsFrom, lay}
 use Rattle.model.specs.Frame.{rowsFrom, freeId}
 use Rattle.model.specs.Reader.{run}
 use Rattle.model.specs.States.{writerGood, readerGood}
 use Rattle.model.specs.Pod.{kindOf, wellFormed, signed, fed, step}
-use Rattle.model.specs.Calls.{writeVerdict, writeCall, writeBuffer, runVerdict, runCall}
-use Rattle.model.specs.Bench.{Row, outcome, sheet, replaced}
+use Rattle.model.specs.Calls.{accepted, freshWriterCall, freshReaderCall, writeVerdict, writeCall, writeBuffer, runVerdict, runCall}
+use Rattle.model.specs.Bench.{Row, outcome, pupil, panel, fresh, sheet, replaced}
 
 -- Every row: the writer's whole answer, every byte of the buffer, and the table read back; or the pod's state and answers.
 sheet-holds : map (λ (r : Row). outcome (r .given)) sheet ≡ map (λ (r : Row). r .gives) sheet
-unfolding kindOf wellFormed signed fed step bitsOf signedOf recordBytes bytesOf eventsFrom lay rowsFrom freeId run writerGood readerGood writeVerdict writeCall writeBuffer runVerdict runCall
+unfolding kindOf wellFormed signed fed step bitsOf signedOf recordBytes bytesOf eventsFrom lay rowsFrom freeId run writerGood readerGood freshWriterCall writeVerdict writeCall writeBuffer runVerdict runCall
 sheet-holds = refl
+
+-- The reader of P1's bytes is what `fresh` answers too.
+fresh-reader : freshReaderCall base (panel 2) ≡ record { verdict = accepted; state = pupil fresh }
+unfolding freshWriterCall freshReaderCall
+fresh-reader = refl
 
 -- A replaced id is not free within its own frame.
 replaced-holds : outcome (replaced .given) ≡ replaced .gives

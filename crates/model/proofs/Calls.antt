@@ -1,4 +1,4 @@
--- The theorems said of the calls: what is accepted and refused, steady, demands 2 and 3, and lost until a load. Assumes nothing.
+-- The theorems said of each call: what is accepted and refused, steady, demands 2 and 3, and what a load shows. Assumes nothing.
 use mathlib.Core.Path.{_≡_, refl, sym, ap, _∙_, subst}
 use mathlib.Core.Bool.{Bool, true, false, not, cond, _&&_}
 use mathlib.Core.List.{List, [], _∷_}
@@ -9,8 +9,8 @@ use lib.Dec.{T, ltb, ltb→lt, lt→ltb}
 use lib.IntN.{ℤ}
 use lib.ListN.{length, getD, replicate, List·getD-append}
 use Rattle.model.proofs.Bools.{is-false, both, both-left, both-right}
+use Rattle.model.proofs.Exact.{exact}
 use Rattle.model.proofs.Count.{event-count}
-use Rattle.model.proofs.Lost.{Lost, unknown-after-loss}
 use Rattle.model.proofs.ReaderSteady.{SteadyReader, reader-facts, facts-reader, read-steady}
 use Rattle.model.proofs.WriterSteady.{SteadyWriter, writer-facts, facts-writer, rows-steady}
 use Rattle.model.proofs.FreshSteady.{fresh-writer, fresh-reader, setup-slots}
@@ -26,7 +26,8 @@ use Rattle.model.specs.Frame.{rowsFrom, rowsOf, sized, valuesGood}
 use Rattle.model.specs.Sending.{fewest}
 use Rattle.model.specs.Reader.{Mode, Reader, following, dropped, stale, follow, settledAt, read, run as runOver}
 use Rattle.model.specs.States.{WriterState, writerGood, ReaderState, readerGood, freshWriter, freshReader, zeroWriter, zeroReader}
-use Rattle.model.specs.Calls.{Verdict, accepted, setup, state, frame, value, noRoom, notStale, image, check, isAccepted, freshVerdict, freshWriterCall, freshReaderCall, writerAfter, frameEvents, needOf, mostEvents, roomFor, writeVerdict, Written, notWritten, taken, writeCall, writeBuffer, runVerdict, Ran, ran, notRun, runCall, stepCall, isStale, imageTable, imageGood, loadVerdict, loadCall, Asked, contact, empty, unknown, noSuchSlot, refused, askedNumber, askedValues, askedIn, asked, askCall}
+use Rattle.model.specs.Refusals.{Exact, stateRows}
+use Rattle.model.specs.Calls.{Verdict, accepted, setup, state, frame, value, noRoom, notStale, image, check, isAccepted, freshVerdict, freshWriterCall, freshReaderCall, writerAfter, frameEvents, needOf, mostEvents, roomFor, writeVerdict, Written, notWritten, taken, writeCall, writeBuffer, runVerdict, Ran, ran, notRun, runCall, stepCall, isStale, imageTable, imageGood, loadVerdict, loadCall, Asked, contact, empty, noSuchSlot, refused, askedNumber, askedValues, askedIn, asked, askCall}
 
 -- ---- verdicts
 
@@ -262,6 +263,10 @@ pub ask-refusal : (l : Layout) (s : ReaderState) (k : ℕ) → askedNumber (askC
 unfolding askCall
 ask-refusal l s k = number-by (readerGood l s) (asked (panelOf l (s .setup)) (s .reader) k) (unrefused (panelOf l (s .setup)) (s .reader) k)
 
+-- So it is exact, as the other calls' are.
+pub ask-exact : (l : Layout) (s : ReaderState) (k : ℕ) → Exact (askedNumber (askCall l s k)) (stateRows l s)
+ask-exact l s k = exact (stateRows l s) _ tt (ask-refusal l s k)
+
 values-in : (b : Bool) (s : Slot) → askedValues (cond b (contact s) empty) ≡ cond b s []
 values-in true s = refl
 values-in false s = refl
@@ -275,21 +280,7 @@ ask-shown l s k g m b =
     ap askedValues (accepted-is (readerGood l s) _ _ g ∙ accepted-is (ltb k (s .setup .slots)) _ noSuchSlot (lt→ltb k (s .setup .slots) b) ∙ ap (λ q. askedIn q o) m)
     ∙ values-in (live (idOf o)) o
 
--- ---- lost, until a load
-
-still-unknown : (l : Layout) (s : ReaderState) (bs : List ℕ) (k : ℕ) → Lost (s .reader .mode) → T (ltb k (s .setup .slots))
-    → asked (panelOf l (runCall l s bs .state .setup)) (runCall l s bs .state .reader) k ≡ unknown
-unfolding runCall runOver
-still-unknown l s bs k h b =
-    by-verdict (λ (a : Ran). asked (panelOf l (a .state .setup)) (a .state .reader) k ≡ unknown) (isAccepted (runVerdict l s bs)) _ _
-    (λ _. unknown-after-loss (panelOf l (s .setup)) (s .reader) (eventsOf bs) k h b)
-    (unknown-after-loss (panelOf l (s .setup)) (s .reader) [] k h b)
-
--- A well-formed reader that lost track, given any bytes, answers "unknown" for every slot of its panel.
-pub unknown-until-load : (l : Layout) (s : ReaderState) (bs : List ℕ) (k : ℕ) → T (readerGood l s) → Lost (s .reader .mode) → k < s .setup .slots
-    → askCall l (runCall l s bs .state) k ≡ unknown
-unfolding askCall
-unknown-until-load l s bs k g h b = accepted-is (readerGood l (runCall l s bs .state)) _ _ (run-steady l s bs g) ∙ (still-unknown l s bs k h (lt→ltb k (s .setup .slots) b))
+-- ---- what is shown after a load
 
 loaded-shows : (l : Layout) (s : ReaderState) (m : List ℤ) (c k : ℕ) → T (isAccepted (loadVerdict l s m c)) → k < s .setup .slots
     → asked (panelOf l (loadCall l s m c .state .setup)) (loadCall l s m c .state .reader) k ≡ askedIn following (getD (rowsOf (panelOf l (s .setup)) m) k [])

@@ -1,4 +1,5 @@
--- What a writer sends is classified as it was meant, on every panel whose fields can be told apart. Cited by ReadsBack, Bytes and Steady. Assumes nothing.
+-- What a writer sends is classified as it was meant, on every panel whose fields can be told apart.
+-- Cited by ReadsBack, Bytes, Loss and ReaderSteady. Assumes nothing.
 use mathlib.Core.Path.{_≡_, refl, ap, ap₂, subst}
 use mathlib.Core.Bool.{Bool, true, false, not, _&&_}
 use mathlib.Core.List.{List, [], _∷_, _++_, map}

@@ -1,4 +1,5 @@
--- Counts add up in any grouping. Cited by the reader's crate and by theorems on runs that are cut. Assumes nothing.
+-- Two counts added to a third one after the other are added at once, and adding none changes nothing. Cited by Cut, Shows and the crate runs.
+-- Assumes nothing.
 use mathlib.Core.Path.{_≡_}
 use Prim.Native.Nat.{_+_}
 use native.Mathlib.Omega.{arith}

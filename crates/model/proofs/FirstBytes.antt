@@ -1,13 +1,35 @@
--- The rows of the table of first bytes, each by its bounds. Cited by the proof of the crate pod's one decision over a first byte.
--- Assumes nothing.
-use mathlib.Core.Path.{_≡_}
+-- The table of first bytes: all 256 as one list, by computing; and rows of it by their bounds, for the proof of the crate pod's one decision
+-- over a first byte. Assumes nothing.
+use mathlib.Core.Path.{_≡_, refl}
 use mathlib.Core.Bool.{true, false, and-false}
-use Prim.Native.Nat.{ℕ, _-_, _/_, _%_, _≤_, _<_}
+use mathlib.Core.List.{List, [], _∷_, _++_, map}
+use Prim.Native.Nat.{ℕ, zero, suc, _-_, _/_, _%_, _≤_, _<_}
 use native.Mathlib.Omega.{arith}
 use lib.Dec.{leb, eqb}
+use lib.ListN.{replicate}
 use borrow.Author.Tests.{le-leb, lt-leb}
 use Rattle.model.specs.Numbers.{between}
-use Rattle.model.specs.Pod.{kindOf, keyDownReport, keyUpReport, relativeReport, oneStickReport, badByteReport}
+use Rattle.model.specs.Pod.{kindOf, keyDownReport, keyUpReport, absoluteReport, relativeReport, bothSticksReport, oneStickReport, badByteReport}
+
+-- ---- all 256
+
+-- n numbers, from k on.
+abbrev from : ℕ → ℕ → List ℕ
+from k zero = []
+from k (suc n) = k ∷ from (suc k) n
+
+-- What each first byte opens, from 0x00 to 0xFF.
+pub all-first-bytes : map kindOf (from 0x00 256)
+    ≡ badByteReport ∷ map keyDownReport (from 0x01 0x75)
+    ++ replicate 11 badByteReport
+    ++ map keyUpReport (from 0x01 0x75)
+    ++ badByteReport ∷ absoluteReport
+    ∷ relativeReport false false ∷ relativeReport false true ∷ relativeReport true false ∷ relativeReport true true
+    ∷ badByteReport ∷ bothSticksReport ∷ oneStickReport 0 ∷ oneStickReport 1 ∷ []
+unfolding kindOf
+all-first-bytes = refl
+
+-- ---- rows by their bounds
 
 -- A byte within a range is in it.
 within : (low high b : ℕ) → low ≤ b → b ≤ high → between low high b ≡ true

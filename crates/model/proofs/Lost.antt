@@ -1,21 +1,37 @@
--- No event leads a reader that lost track back to following, and it answers "unknown" until a load. Cited by Least, Calls and the reader's crate. Assumes nothing.
+-- What takes a reader off the track, that no event leads it back to following, and that a lost reader answers "unknown".
+-- Cited by Loss, Least and Chain. Assumes nothing.
 use mathlib.Core.Path.{_≡_, refl, sym, subst}
+use mathlib.Core.Bool.{not}
 use mathlib.Core.List.{List, [], _∷_, map}
-use Prim.Native.Nat.{ℕ}
-use lib.Dec.{T, ltb}
-use lib.ListN.{getD}
-use Rattle.model.proofs.Bools.{is-true}
+use lib.Dec.{T}
+use Rattle.model.proofs.Bools.{is-false}
 use Rattle.model.specs.Panel.{Panel}
-use Rattle.model.specs.Table.{Slot}
+use Rattle.model.specs.Table.{Slot, idsDiffer}
 use Rattle.model.specs.Events.{Event, Act, skip, bad, report, loss, slot, number, classify}
-use Rattle.model.specs.Reader.{Mode, following, dropped, stale, Reader, stepIn, step, steps, read}
-use Rattle.model.specs.Calls.{askedIn, asked, unknown}
+use Rattle.model.specs.Reader.{Mode, following, dropped, stale, Lost, Reader, reported, stepIn, step, steps, read}
+use Rattle.model.specs.Calls.{askedIn, unknown}
 
--- Dropped or stale.
-abbrev pub Lost : Mode → Type 0
-Lost following = ⊥
-Lost dropped = Unit {0}
-Lost stale = Unit {0}
+-- ---- what takes a reader off the track
+
+-- A loss, in whatever mode it is found, leaves the reader lost.
+pub lost-by-loss : (m : Mode) (r : Reader) → r .mode ≡ m → Lost (stepIn m r loss .mode)
+lost-by-loss following r e = tt
+lost-by-loss dropped r e = subst Lost (sym e) tt
+lost-by-loss stale r e = tt
+
+-- So does a bad value.
+pub lost-by-bad : (m : Mode) (r : Reader) → r .mode ≡ m → Lost (stepIn m r bad .mode)
+lost-by-bad following r e = tt
+lost-by-bad dropped r e = subst Lost (sym e) tt
+lost-by-bad stale r e = subst Lost (sym e) tt
+
+-- So does a report while the pending live ids repeat.
+pub lost-by-report : (m : Mode) (r : Reader) → r .mode ≡ m → T (not (idsDiffer (r .pending))) → Lost (stepIn m r report .mode)
+lost-by-report following r e d = subst (λ b. Lost (reported b r .mode)) (sym (is-false (idsDiffer (r .pending)) d)) tt
+lost-by-report dropped r e d = tt
+lost-by-report stale r e d = subst Lost (sym e) tt
+
+-- ---- and nothing brings it back
 
 -- One act found in a lost mode leaves it lost.
 lost-step : (m : Mode) (r : Reader) (x : Act) → r .mode ≡ m → Lost m → Lost (stepIn m r x .mode)
@@ -44,12 +60,8 @@ lost-reads p r es l = lost-steps r (map (classify p) es) l
 pub never-follows : (r : Reader) (xs : List Act) → Lost (r .mode) → steps r xs .mode ≡ following → ⊥
 never-follows r xs l e = subst Lost e (lost-steps r xs l)
 
-lost-unknown : (m : Mode) (s : Slot) → Lost m → askedIn m s ≡ unknown
+-- A slot of a lost reader is answered "unknown".
+pub lost-unknown : (m : Mode) (s : Slot) → Lost m → askedIn m s ≡ unknown
 lost-unknown following s l = absurd l
 lost-unknown dropped s l = refl
 lost-unknown stale s l = refl
-
--- Whatever events come to a reader that lost track, every slot of the panel is answered "unknown".
-pub unknown-after-loss : (p : Panel) (r : Reader) (es : List Event) (k : ℕ) → Lost (r .mode) → T (ltb k (p .slots)) → asked p (read p r es) k ≡ unknown
-unknown-after-loss p r es k l h =
-    rw (is-true (ltb k (p .slots)) h) (lost-unknown (read p r es .mode) (getD (read p r es .shown) k []) (lost-reads p r es l))

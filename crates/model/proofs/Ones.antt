@@ -1,5 +1,5 @@
 -- The changed-slot number's ones, and the most events that a frame can have. Cited by Calls and the writer's crates. Assumes nothing.
-use mathlib.Core.Path.{_≡_, refl, ap, ap₂, _∙_, subst}
+use mathlib.Core.Path.{_≡_, refl, sym, ap, ap₂, _∙_, subst}
 use mathlib.Core.Bool.{true, false, cond}
 use mathlib.Core.List.{List, [], _∷_}
 use Prim.Native.Nat.{ℕ, zero, suc, _+_, _*_, _/_, _%_, _-_, _^_, _≤_, _<_}
@@ -7,14 +7,14 @@ use native.Mathlib.Omega.{arith}
 use native.Mathlib.Nat.{suc-mul, pow-suc}
 use lib.Dec.{T, eqb}
 use lib.Count.{ones, ones-step}
-use lib.ListN.{length}
+use lib.ListN.{length, getD}
 use Rattle.model.proofs.Bools.{is-true, both-right, eqZ-refl}
 use Rattle.model.proofs.Tables.{same-past, place, good-records}
 use Rattle.model.proofs.Count.{oneUnless-le, changedIn-self, event-count}
 use Rattle.model.specs.Numbers.{eqZ}
 use Rattle.model.specs.Panel.{Field, Panel}
 use Rattle.model.specs.Table.{Slot, Table, fits, goodSlot, goodPlace, goodRecords, goodTable}
-use Rattle.model.specs.Sending.{eventsSent, oneUnless, sameSlot, changedIn, changedNumbers, changedSlots, changedOthers, fewest, changedMask}
+use Rattle.model.specs.Sending.{eventsSent, oneUnless, sameSlot, changedIn, changedNumbers, changedSlots, changedOthers, fewest, changedMask, bitOf}
 
 -- ---- the ones
 
@@ -30,6 +30,25 @@ mask-ones (o ∷ old) (v ∷ new) =
     let up : (b + 2 * m) / 2 ≡ m = omega (arith, oneUnless-le (sameSlot o v)) in
     ones-step (b + 2 * m) ∙ ap₂ (λ x y. x + ones y) low up ∙ ap (λ x. b + x) (mask-ones old new)
 
+no-bit : (k : ℕ) → bitOf k 0 ≡ 0
+no-bit zero = omega arith
+no-bit (suc k) = let z : 0 / 2 ≡ 0 = omega arith in ap (bitOf k) z ∙ no-bit k
+
+same-none : (s : Slot) → sameSlot s [] ≡ true
+same-none [] = refl
+same-none (v ∷ s) = refl
+
+-- Bit s is for slot s: 1 if any of its numbers changed, else 0; past the tables there is none.
+pub mask-bit : (old new : Table) (k : ℕ) → bitOf k (changedMask old new) ≡ oneUnless (sameSlot (getD old k []) (getD new k []))
+mask-bit [] new k = no-bit k
+mask-bit (o ∷ old) [] k = no-bit k ∙ sym (ap oneUnless (same-none (getD (o ∷ old) k [])))
+mask-bit (o ∷ old) (v ∷ new) zero =
+    let low : (oneUnless (sameSlot o v) + 2 * changedMask old new) % 2 ≡ oneUnless (sameSlot o v) = omega (arith, oneUnless-le (sameSlot o v)) in
+    low
+mask-bit (o ∷ old) (v ∷ new) (suc k) =
+    let up : (oneUnless (sameSlot o v) + 2 * changedMask old new) / 2 ≡ changedMask old new = omega (arith, oneUnless-le (sameSlot o v)) in
+    ap (bitOf k) up ∙ mask-bit old new k
+
 -- It has no bit past the records held.
 pub mask-below : (old new : Table) → changedMask old new < 2 ^ length old
 mask-below [] new = omega arith
@@ -41,6 +60,13 @@ mask-below (o ∷ old) (v ∷ new) = omega (arith, pow-suc 2 (length old), oneUn
 sameSlot-self : (s : Slot) → sameSlot s s ≡ true
 sameSlot-self [] = refl
 sameSlot-self (v ∷ s) = rw (is-true (eqZ v v) (eqZ-refl v)) (sameSlot-self s)
+
+-- A table that stays has no changed slot.
+pub mask-self : (t : Table) → changedMask t t ≡ 0
+mask-self [] = refl
+mask-self (s ∷ t) =
+    let b : oneUnless (sameSlot s s) ≡ 0 = ap oneUnless (sameSlot-self s) in
+    omega (arith, mask-self t)
 
 in-limit : (fs : List Field) (old new : Slot) → T (goodSlot fs old) → changedIn old new ≤ length fs
 in-limit fs [] new g = omega arith

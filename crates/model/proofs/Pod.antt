@@ -10,6 +10,8 @@ use lib.ListN.{length, getD, take, drop, set, replicate, length-append, length-d
 use lib.Seq.{length-take-le, take-append-seam, drop-append-seam, drop-cons, set-split}
 use borrow.Author.Tests.{ltb-true, leb-true, eqb-true, lt-ltb, le-ltb, le-leb, eq-eqb}
 use Rattle.model.proofs.Bools.{and-left, and-right}
+use Rattle.model.proofs.Exact.{exact}
+use Rattle.model.specs.Refusals.{Exact, podRows}
 use Rattle.model.specs.Pod.{Kind, keyDownReport, keyUpReport, absoluteReport, relativeReport, bothSticksReport, oneStickReport, badByteReport, kindOf, lengthOf, places, State, heldIn, unusedIn, holding, fresh, unfinished, zeros, wellFormed, Report, more, absolute, bothSticks, oneStick, badByte, badReport, reportRefusal, ends, word, goodFlags, goodStick, trigger, position, byteAt, judged, Fed, firstOf, keeping, ending, fedTo, fed, Stepped, accepted, refusing, step, told, after, run}
 
 -- ---- places and the bytes held
@@ -199,6 +201,10 @@ refusal-exact s b =
     by-form (λ r. reportRefusal (r .report) ≡ cond (wellFormed s) 0 2) s b
     (λ e. rw e (by-last (λ f. reportRefusal (f .report) ≡ 0) (heldIn s) b (λ l. refl) (unrefused (kindOf (firstOf (heldIn s) b)) (heldIn s ++ b ∷ []))))
     (λ e. rw e)
+
+-- So it is exact, as the calls' are.
+pub pod-exact : (s : State) (b : ℕ) → Exact (reportRefusal (step s b .report)) (podRows s)
+pod-exact s b = exact (podRows s) _ tt (refusal-exact s b)
 
 -- ---- after a report
 

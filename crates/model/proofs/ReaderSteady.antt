@@ -7,6 +7,8 @@ use native.Mathlib.Omega.{arith}
 use lib.Dec.{T, ltb, eqb, lt→ltb, ltb→lt}
 use lib.IntN.{ℤ, pos, negsuc}
 use lib.ListN.{set}
+-- Brought in so that it is checked first: a reader that does not heed a loss then fails at the theorem on it, and not at a step of a proof here.
+use Rattle.model.proofs.Loss
 use Rattle.model.proofs.Bools.{both, both-left, both-right}
 use Rattle.model.proofs.Tables.{eqTable-self, good-length, good-records, good-table, length-onSlot}
 use Rattle.model.proofs.Codes.{goodAt}

@@ -1,5 +1,5 @@
 -- What a reader counts of a frame: one table shown, or nothing where nothing is sent. Cited by Link. Assumes nothing.
-use mathlib.Core.Path.{_≡_, refl, sym, ap, ap₂, _∙_}
+use mathlib.Core.Path.{_≡_, refl, ap, ap₂, _∙_}
 use mathlib.Core.Bool.{true, false, cond}
 use mathlib.Core.List.{List, [], _∷_, _++_, map, map-append}
 use Prim.Native.Nat.{ℕ, zero, suc}
@@ -7,18 +7,14 @@ use lib.Dec.{T, eqb, eqb·suc-zero}
 use lib.ListN.{length, getD, set}
 use Rattle.model.proofs.Bools.{is-true}
 use Rattle.model.proofs.Tables.{Alike}
-use Rattle.model.proofs.Counts.{plus-assoc, none-plus}
+use Rattle.model.proofs.Counts.{none-plus}
+use Rattle.model.proofs.Cut.{tallies-append}
 use Rattle.model.proofs.Follow.{asks, heeds, heeds-body}
 use Rattle.model.specs.Numbers.{eqZ}
 use Rattle.model.specs.Table.{Slot, Table, idsDiffer}
-use Rattle.model.specs.Events.{Act, report}
-use Rattle.model.specs.Reader.{Reader, follow, onSlot, step, steps, nothing, oneShown, oneBad, plus, tally, tallies}
+use Rattle.model.specs.Events.{report}
+use Rattle.model.specs.Reader.{follow, onSlot, nothing, oneShown, oneBad, plus, tallies}
 use Rattle.model.specs.Sending.{Sent, sendSlot, sendNumber, sendReport, unless, changes, opened, allChanges, otherChanges, body, closed, sending, lastOpened}
-
--- Counts of one run after another.
-pub tallies-append : (r : Reader) (xs ys : List Act) → tallies r (xs ++ ys) ≡ plus (tallies r xs) (tallies (steps r xs) ys)
-tallies-append r [] ys = sym (none-plus (tallies r ys))
-tallies-append r (x ∷ xs) ys = ap (plus (tally (r .mode) r x)) (tallies-append (step r x) xs ys) ∙ sym (plus-assoc (tally (r .mode) r x) (tallies (step r x) xs) (tallies (steps (step r x) xs) ys))
 
 -- ---- slots and numbers are not counted
 

@@ -11,7 +11,7 @@ use Rattle.model.specs.Records.{bytesOf}
 use Rattle.model.specs.Reader.{Counts, nothing, oneShown, follow}
 use Rattle.model.specs.States.{WriterState, ReaderState}
 use Rattle.model.specs.Pod as P
-use Rattle.model.specs.Calls.{accepted, Written, writeCall, writeBuffer, Ran, runCall}
+use Rattle.model.specs.Calls.{accepted, freshWriterCall, Written, writeCall, writeBuffer, Ran, runCall}
 
 -- ---- a case and its outcome
 
@@ -86,8 +86,9 @@ turns old f bytes count changed new counts = record {
 
 -- ---- the states that P1 to P7 lead through
 
+-- P1's writer is what `fresh` answers.
 abbrev pub fresh : WriterState
-fresh = writer 2 [] 0 0
+fresh = freshWriterCall base (panel 2) .state
 
 abbrev pub after1 : WriterState
 after1 = writer 2 (at (pos 0) 100 200 30 ∷ at (negsuc 0) 0 0 0 ∷ []) 0 1

@@ -12,7 +12,7 @@ use Rattle.model.specs.Events.{Event}
 use Rattle.model.specs.Records.{bytesOf, eventsOf, lay}
 use Rattle.model.specs.Frame.{rowsOf, sized, valuesGood, newTable, newCounter}
 use Rattle.model.specs.Sending.{eventsSent, currentAfter, changedMask}
-use Rattle.model.specs.Reader.{Mode, following, dropped, stale, Reader, settledAt, Counts, nothing, Run, run as runOver}
+use Rattle.model.specs.Reader.{Mode, following, dropped, stale, Reader, settledAt, Counts, nothing, plus, Run, run as runOver}
 use Rattle.model.specs.States.{Writer, WriterState, writerGood, ReaderState, readerGood, freshWriter, freshReader, zeroWriter, zeroReader}
 
 -- ---- the verdicts
@@ -160,6 +160,10 @@ unfoldable pub runCall : Layout → ReaderState → List ℕ → Ran
 runCall l s bs =
     let v = runVerdict l s bs in
     cond (isAccepted v) (ran (s .setup) (runOver (panelOf l (s .setup)) (s .reader) (eventsOf bs))) (notRun v s)
+
+-- Two runs, one after the other, as one answer: the later verdict and state, and the counts added up.
+abbrev pub joined : Ran → Ran → Ran
+joined a b = record { verdict = b .verdict; state = b .state; counts = plus (a .counts) (b .counts) }
 
 -- What one event by itself answers: refusal 2.
 unfoldable pub stepCall : Layout → ReaderState → Event → Ran

@@ -8,8 +8,10 @@ pub mod Frame
 pub mod Sending
 pub mod Order
 pub mod Reader
+pub mod Loss
 pub mod States
 pub mod Calls
 pub mod Pod
+pub mod Refusals
 pub mod Bench
 pub mod Unique

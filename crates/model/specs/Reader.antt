@@ -13,6 +13,12 @@ use Rattle.model.specs.Events.{Event, Act, skip, bad, report, loss, slot
 pub data Mode : Type 0 where
   following dropped stale : Mode
 
+-- The reader lost track of the table: dropped or stale.
+abbrev pub Lost : Mode → Type 0
+Lost following = ⊥
+Lost dropped = Unit {0}
+Lost stale = Unit {0}
+
 -- The shown and the pending table, the current slot and the mode.
 pub record Reader : Type 0 where
   pub shown : Table

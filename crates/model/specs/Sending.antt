@@ -1,7 +1,7 @@
 -- What a writer sends to get a following reader from an old table to a new one, and demand 3's counts. Assumes nothing.
 use mathlib.Core.Bool.{Bool, true, false, cond, _&&_}
 use mathlib.Core.List.{List, [], _∷_, _++_, map}
-use Prim.Native.Nat.{ℕ, zero, suc, _+_, _*_}
+use Prim.Native.Nat.{ℕ, zero, suc, _+_, _*_, _/_, _%_}
 use lib.Dec.{eqb}
 use lib.IntN.{ℤ, pos}
 use lib.ListN.{getD}
@@ -136,3 +136,8 @@ abbrev pub changedMask : Table → Table → ℕ
 changedMask [] new = 0
 changedMask (o ∷ old) [] = 0
 changedMask (o ∷ old) (v ∷ new) = oneUnless (sameSlot o v) + 2 * changedMask old new
+
+-- Bit k of a number.
+abbrev pub bitOf : ℕ → ℕ → ℕ
+bitOf zero m = m % 2
+bitOf (suc k) m = bitOf k (m / 2)

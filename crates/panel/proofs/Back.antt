@@ -15,7 +15,7 @@ use Rattle.panel.specs.declared.Slot.{Slot}
 use Rattle.panel.specs.declared.Setup.{Setup}
 use Rattle.panel.specs.declared.Verdict.{Verdict}
 use Rattle.panel.specs.declared.Verdict.the-variants as W
-use Rattle.panel.specs.Seen.{natural, slotOf, tableOf, slotFrom, tableFrom, setupOf, setupFrom, fieldsOf, verdictOf, verdictFrom}
+use Rattle.panel.specs.Seen.{natural, slotOf, tableOf, slotFrom, tableFrom, setupOf, setupFrom, fieldsOf, verdictOf, verdictFrom, verdictNumber}
 
 pub table-back : (t : List Slot) → tableFrom (tableOf t) ≡ t
 table-back [] = refl
@@ -47,6 +47,10 @@ verdict-seen C.noRoom = refl
 verdict-seen C.ragged = refl
 verdict-seen C.notStale = refl
 verdict-seen C.image = refl
+
+-- So the number of what is held of a verdict is document 01's.
+pub number-seen : (v : C.Verdict) → verdictNumber (verdictFrom v) ≡ C.verdictNumber v
+number-seen v = ap C.verdictNumber (verdict-seen v)
 
 own-number : (top : ℕ) (v : ℤ) → T (betweenZ (pos 0) (pos top) v) → pos (natural v) ≡ v
 own-number top (pos n) t = refl

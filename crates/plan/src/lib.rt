@@ -17,12 +17,13 @@ use panel::TrackingId;
 const TAKEN: usize = 2 * RECORDS;
 
 // Whether v is none of the taken ids.
-fn absent(taken: &[i32], v: i32) -> bool
-    ensures { λ r. ⌜ r ≡ unheld v (now (taken .entry)) ⌝ }
+fn absent(taken: &[i32], v: TrackingId) -> bool
+    ensures { λ r. ⌜ r ≡ unheld (v .0) (now (taken .entry)) ⌝ }
 {
+    let id = v.0;
     let mut j: usize = 0;
     while j < taken.len() {
-        if panel::same(v, taken[j]) {
+        if panel::same(id, taken[j]) {
             return false;
         }
         j += 1;
@@ -30,11 +31,12 @@ fn absent(taken: &[i32], v: i32) -> bool
     true
 }
 
-fn id_of(k: u32) -> i32
+fn id_of(k: u32) -> TrackingId
     requires { ⌜ k < 65536 ⌝ }
-    ensures { λ r. ⌜ r ≡ pos k ⌝ }
+    ensures { λ r. ⌜ r ≡ record { 0 = pos k } ⌝ }
 {
-    k as i32
+    let v = k as i32;
+    TrackingId(v)
 }
 
 fn after(k: u32) -> u32
@@ -78,8 +80,8 @@ fn ids_of(t: [Slot; RECORDS]) -> [i32; TAKEN]
 }
 
 // Whether a contact begins in a slot that has this id.
-fn begins(kind: i32, id: i32) -> bool
-    ensures { λ r. ⌜ r ≡ begun (fate kind id) ⌝ }
+fn begins(kind: i32, id: TrackingId) -> bool
+    ensures { λ r. ⌜ r ≡ begun (fate kind (id .0)) ⌝ }
 {
     if panel::same(kind, 0) {
         return false;
@@ -87,18 +89,18 @@ fn begins(kind: i32, id: i32) -> bool
     if panel::same(kind, 2) {
         return true;
     }
-    panel::same(id, -1)
+    panel::same(id.0, TrackingId::UNUSED)
 }
 
 // A slot that has a contact: its id and the frame's numbers, which are not negative, so that their bits are they themselves.
-fn contact(id: i32, x: i32, y: i32, pressure: i32) -> Slot
-    ensures { λ r. ⌜ r ≡ held id x y pressure ⌝ }
+fn contact(id: TrackingId, x: i32, y: i32, pressure: i32) -> Slot
+    ensures { λ r. ⌜ r ≡ held (id .0) x y pressure ⌝ }
 {
     let a = records::bits_of(x);
     let b = records::bits_of(y);
     let c = records::bits_of(pressure);
     Slot {
-        id: TrackingId(id),
+        id,
         x: a,
         y: b,
         pressure: c,
@@ -118,7 +120,7 @@ fn stays(kind: i32, was: Slot, x: i32, y: i32, pressure: i32) -> Slot
         };
     }
     let id = was.id;
-    contact(id.0, x, y, pressure)
+    contact(id, x, y, pressure)
 }
 
 pub struct Planned {
@@ -141,12 +143,13 @@ pub fn plan_frame(n: usize, old: [Slot; RECORDS], counter: u32, frame: &[i32]) -
         let kind = frame[i];
         let was = t[s];
         let id = was.id;
-        if begins(kind, id.0) {
+        if begins(kind, id) {
             let j = choose(&taken[..m], k);
             let v = id_of(j);
             let w = contact(v, frame[i + 1], frame[i + 2], frame[i + 3]);
             t[s] = w;
-            taken[m] = v;
+            let q = v.0;
+            taken[m] = q;
             m += 1;
             k = after(j);
             s += 1;

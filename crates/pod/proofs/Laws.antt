@@ -1,20 +1,23 @@
--- Laws on bytes and places: a byte in two's complement, the bytes of a whole report, the first byte of those held, unused places.
+-- Laws on bytes and places: a byte in two's complement, the bytes of a whole report, the first byte of those held, unused places; and on answers.
 -- Cited by the proofs of the pod's functions; assumes nothing.
 use mathlib.Core.Path.{_≡_, refl, ap, ap₂, _∙_}
-use mathlib.Core.Bool.{Bool, true, false, cond, _&&_, and-false}
+use mathlib.Core.Bool.{Bool, true, false, _&&_, and-false}
 use mathlib.Core.List.{List, [], _∷_, _++_}
-use Prim.Native.Nat.{ℕ, zero, suc, _+_, _-_, _≤_, _<_, _^_}
+use Prim.Native.Nat.{ℕ, zero, suc, _+_, _≤_, _<_, _^_}
 use native.Mathlib.Numerals.{add-one}
 use native.Mathlib.Omega.{arith}
 use lib.Dec.{ltb, eqb}
-use lib.IntN.{pos, negsuc}
 use lib.ListN.{length, getD, take, drop, List·getD-append}
 use lib.Seq.{length-take-le, getD-take, getD-at, drop-cons}
 use borrow.Author.Tests.{ltb-true, lt-ltb}
 use mir.Syntax.{w8}
 use mir.Val.{toZ}
 use Rattle.model.proofs.Bools.{by-sign}
+use Rattle.model.specs.Pod as M
 use Rattle.model.specs.Pod.{kindOf, lengthOf, places, unfinished, zeros, firstOf, Report, byteAt, signed, word, judged, judgedAbsolute, judgedBoth, judgedStick, absoluteReport, relativeReport, bothSticksReport, oneStickReport, relative}
+use Rattle.pod.specs.declared.PodState.{PodState}
+use Rattle.pod.specs.declared.PodAnswer.{PodAnswer}
+use Rattle.pod.specs.Seen.{seen, heldReport, reportSeen, stepAnswer, AnswersAs}
 
 -- The machine's reading of eight bits as a signed number is two's complement.
 pub toZ-signed : (b : ℕ) → toZ w8 b ≡ signed b
@@ -80,3 +83,24 @@ unfinished-held (suc n) (x ∷ l) e h r = rw (length-take-le n l (omega arith)) 
 -- Places are clear from one on, if that one is 0 and they are clear from the next on.
 pub clear-from : (l : List ℕ) (i : ℕ) → i < length l → zeros (drop i l) ≡ (eqb (getD l i 0) 0 && zeros (drop (i + 1) l))
 clear-from l i h = rw (add-one, drop-cons l i 0 h)
+
+-- ---- the answer
+
+-- What is held of an answer is seen again.
+report-seen : (r : M.Report) → reportSeen (heldReport r) ≡ r
+report-seen M.more = refl
+report-seen (M.keyDown key) = refl
+report-seen (M.keyUp key) = refl
+report-seen (M.absolute flags x y) = refl
+report-seen (M.relative left right dx dy) = refl
+report-seen (M.bothSticks t0 p0 t1 p1) = refl
+report-seen (M.oneStick which t p) = refl
+report-seen M.badByte = refl
+report-seen M.badReport = refl
+report-seen M.refused = refl
+
+-- So all that `step` promises follows from the answer alone.
+pub answers : (s : PodState) (b : ℕ) (r : PodAnswer) → r ≡ stepAnswer s b → AnswersAs s b r
+answers s b r e =
+    let back = ap (λ (x : PodAnswer). reportSeen (x .report)) e ∙ report-seen (M.step (seen s) b .report) in
+    record { answer = e; refusal = ap M.reportRefusal back; numbers = ap M.reportNumbers back }

@@ -8,4 +8,4 @@ pub fresh-one : OneAnswer fresh.Learnt
 fresh-one κs a r q s t e g = e ∙ sym g
 
 pub step-one : OneAnswer step.Learnt
-step-one κs a r q s t e g = e ∙ sym g
+step-one κs a r q s t e g = e .answer ∙ sym (g .answer)

@@ -1,5 +1,6 @@
 -- The pod's structs as the model's values, and back, and what its functions answer by them; the meaning is the model's. Cited by the
 -- promises of src/lib.rt. Assumes nothing.
+use mathlib.Core.Path.{_≡_}
 use mathlib.Core.List.{List}
 use Prim.Native.Nat.{ℕ}
 use lib.IntN.{ℤ}
@@ -79,6 +80,12 @@ heldStep a = record { state = held (a .state); report = heldReport (a .report) }
 -- What a state is answered to a byte.
 abbrev pub stepAnswer : PodState → ℕ → PodAnswer
 stepAnswer s b = heldStep (M.step (seen s) b)
+
+-- What `step` promises of its answer r: it is that answer, and has document 01's refusal number and numbers of it.
+pub record AnswersAs (s : PodState) (b : ℕ) (r : PodAnswer) : Type 0 where
+  pub answer : r ≡ stepAnswer s b
+  pub refusal : refusalOf (r .report) ≡ M.reportRefusal (M.step (seen s) b .report)
+  pub numbers : numbersOf (r .report) ≡ M.reportNumbers (M.step (seen s) b .report)
 
 -- The state after a run over bytes.
 abbrev pub stateAfter : PodState → List ℕ → PodState

@@ -5,7 +5,7 @@ ghost use mathlib.Core.List.{_∷_, [], _++_};
 ghost use Prim.Native.Nat.{_-_, _≤_};
 ghost use lib.ListN.{take, drop};
 ghost use Rattle.model.specs.Pod.{kindOf, lengthOf, places, heldIn, unfinished, zeros, wellFormed, relative, word, signed, goodStick, judgedAbsolute, judgedBoth, judgedStick, judged, firstOf};
-ghost use Rattle.pod.specs.Seen.{kindSeen, seen, heldStick, heldReport, freshState, stepAnswer};
+ghost use Rattle.pod.specs.Seen.{kindSeen, seen, heldStick, heldReport, freshState, AnswersAs};
 
 // One fewer than the longest report has bytes, since its last byte is never held.
 pub const PLACES: usize = 5;
@@ -300,7 +300,7 @@ fn first_of(state: PodState, byte: u8) -> u8
 
 // One byte: the state after it, and its answer. A state that is not well formed comes back as it is, and the byte is not read.
 pub fn step(state: PodState, byte: u8) -> PodAnswer
-    ensures { λ r. ⌜ r ≡ stepAnswer state byte ⌝ }
+    ensures { λ r. ⌜ AnswersAs state byte r ⌝ }
 {
     if !well_formed(state) {
         return PodAnswer {

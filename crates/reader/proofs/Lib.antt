@@ -1,4 +1,9 @@
--- The laws behind the reader's calls.
+-- The laws behind the reader's calls, and what their promises settle.
+-- States: what a well-formed state gives, and a run by the mode that it finds.
+-- Back: what is held of the model's answer to a question is seen again.
+-- Promises: the number and the values of a question, and the state after each call.
+-- Unique: any two answers that a promise allows are equal.
 pub mod States
+pub mod Back
 pub mod Promises
 pub mod Unique

@@ -12,11 +12,11 @@ use Rattle.model.specs.Table.{Table, idsDiffer, goodTable}
 use Rattle.model.specs.Frame.{sized}
 use Rattle.model.specs.Records.{eventsFrom, eventsOf, recordBytes}
 use Rattle.model.specs.Reader as R
+use Rattle.model.specs.Reader.{Lost}
 use Rattle.model.specs.States.{settled, readerGood}
 use Rattle.model.specs.Calls.{imageTable, imageGood}
 use Rattle.model.proofs.Bools.{is-true, both-left}
 use Rattle.model.proofs.Tables.{eqTable→eq}
-use Rattle.model.proofs.Lost.{Lost}
 use Rattle.model.proofs.Calls.{reader-state}
 use Rattle.panel.specs.Seen.{tableOf, setupOf, panelSeen}
 use Rattle.panel.specs.declared.Setup.{Setup}

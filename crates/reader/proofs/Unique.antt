@@ -20,4 +20,4 @@ pub load-one : OneAnswer load.Learnt
 load-one κs a r q s t e g = e ∙ sym g
 
 pub ask-one : OneAnswer ask.Learnt
-ask-one κs a r q s t e g = e ∙ sym g
+ask-one κs a r q s t e g = e .answer ∙ sym (g .answer)

@@ -1,4 +1,5 @@
 -- The answers of a load and of a question as the model's, and back, and the two plain ones of a run and a load. Cited by the public contracts and by proofs/Promises. Assumes nothing.
+use mathlib.Core.Path.{_≡_}
 use mathlib.Core.List.{List}
 use Prim.Native.Nat.{ℕ}
 use lib.IntN.{ℤ}
@@ -42,6 +43,12 @@ refusalOf r = C.askedNumber (answerSeen r)
 -- The numbers that come with an answer: a contact's four.
 abbrev pub valuesOf : SlotAnswer → List ℤ
 valuesOf r = C.askedValues (answerSeen r)
+
+-- What `ask` promises of its answer r, where the model answers a: r is that answer, and has document 01's number and values of it.
+pub record AnswersAs (a : C.Asked) (r : SlotAnswer) : Type 0 where
+  pub answer : r ≡ askedFrom a
+  pub number : refusalOf r ≡ C.askedNumber a
+  pub values : valuesOf r ≡ C.askedValues a
 
 -- A refused run: the state as it came in, and zeros.
 abbrev pub refusedRun : Verdict → ReaderState → RunAnswer

@@ -13,7 +13,7 @@ ghost use Rattle.panel.specs.Seen.{slotOf, tableOf, panelSeen};
 ghost use Rattle.records.specs.Seen.{eventOf};
 ghost use Rattle.runs.specs.Seen.{modeOf, seen, ranFrom};
 ghost use Rattle.runs.specs.Runs.{answered};
-ghost use Rattle.reader.specs.Seen.{loadedFrom, askedFrom, refusedRun, loadTaken};
+ghost use Rattle.reader.specs.Seen.{loadedFrom, askedFrom, AnswersAs, refusedRun, loadTaken};
 pub use runs::Counts;
 pub use runs::FreshAnswer;
 pub use runs::Mode;
@@ -108,9 +108,9 @@ fn run_accepted(state: ReaderState, bytes: &[u8]) -> RunAnswer
     let current = state.current;
     let mode = state.mode;
     match mode {
-        Mode::Following => runs::follow(setup, shown, pending, current.0, bytes),
-        Mode::Dropped => runs::lost(setup, shown, current.0, Mode::Dropped, bytes, 0, 0, 0, 0),
-        Mode::Stale => runs::lost(setup, shown, current.0, Mode::Stale, bytes, 0, 0, 0, 0),
+        Mode::Following => runs::follow(setup, shown, pending, current, bytes),
+        Mode::Dropped => runs::lost(setup, shown, current, Mode::Dropped, bytes, 0, 0, 0, 0),
+        Mode::Stale => runs::lost(setup, shown, current, Mode::Stale, bytes, 0, 0, 0, 0),
     }
 }
 
@@ -184,7 +184,7 @@ pub fn load(state: ReaderState, image: &[i32], current: panel::SlotNumber) -> Lo
         };
     }
     let setup = state.setup;
-    if !image::image_ok(setup, image, current.0) {
+    if !image::image_ok(setup, image, current) {
         return LoadAnswer {
             verdict: panel::Verdict::Image,
             state,
@@ -218,7 +218,7 @@ fn answer_in(m: Mode, shown: [panel::Slot; panel::RECORDS], k: usize) -> SlotAns
 
 // What the reader answers of a slot, any number: refusal 2, then no such slot, then the mode.
 pub fn ask(state: ReaderState, slot: panel::SlotNumber) -> SlotAnswer
-    ensures { λ r. ⌜ r ≡ askedFrom (askCall base (seen state) (slot .0)) ⌝ }
+    ensures { λ r. ⌜ AnswersAs (askCall base (seen state) (slot .0)) r ⌝ }
 {
     if !state_ok(state) {
         return SlotAnswer::Refused(panel::Verdict::State);

@@ -11,9 +11,8 @@ use Rattle.model.specs.Panel.{Field, Panel, slotCode}
 use Rattle.model.specs.Table.{Table, fits}
 use Rattle.model.specs.Events.{Event, Act, skip, bad, report, loss, slot, number, later, numberAct, slotAct, synAct, absAct, classify}
 use Rattle.model.specs.Records.{eventAt, eventsFrom}
-use Rattle.model.specs.Reader.{Mode, following, dropped, stale, Reader, settledAt, step, read, Counts, nothing, ignoring, plus, tally, tallies, run as runOver}
+use Rattle.model.specs.Reader.{Mode, following, dropped, stale, Lost, Reader, settledAt, step, read, Counts, nothing, ignoring, plus, tally, tallies, run as runOver}
 use Rattle.model.proofs.Counts.{plus-assoc, plus-none, none-plus}
-use Rattle.model.proofs.Lost.{Lost}
 use Rattle.runs.specs.Runs.{onward, heard, onLost, lastMode, endingAt}
 
 pub onward-start : (p : Panel) (r : Reader) (es : List Event) → onward p r nothing es ≡ runOver p r es

@@ -12,9 +12,8 @@ use Rattle.model.specs.Events as E
 use Rattle.model.specs.Events.{classify}
 use Rattle.model.specs.Records.{eventAt, eventsFrom}
 use Rattle.model.specs.Reader as R
-use Rattle.model.specs.Reader.{settledAt}
+use Rattle.model.specs.Reader.{Lost, settledAt}
 use Rattle.model.proofs.Bytes.{events-length}
-use Rattle.model.proofs.Lost.{Lost}
 use Rattle.model.proofs.ReaderSteady.{Fit, fit}
 use Rattle.panel.specs.Seen.{slotOf, tableOf, fieldsOf, panelSeen, blank}
 use Rattle.panel.specs.declared.Slot.{Slot}

@@ -5,9 +5,8 @@ ghost use Prim.Native.Nat.{_<_, _≤_, _-_, _*_, _/_};
 ghost use lib.ListN.{length};
 ghost use Rattle.model.specs.Panel.{base, setupGood};
 ghost use Rattle.model.specs.Records.{eventsFrom, eventsOf};
-ghost use Rattle.model.specs.Reader.{following, nothing, settledAt};
+ghost use Rattle.model.specs.Reader.{following, Lost, nothing, settledAt};
 ghost use Rattle.model.specs.Calls.{freshReaderCall};
-ghost use Rattle.model.proofs.Lost.{Lost};
 ghost use Rattle.panel.specs.Seen.{tableOf, setupOf, panelSeen};
 ghost use Rattle.records.specs.Seen.{eventOf};
 ghost use Rattle.runs.specs.Seen.{modeOf, readerOf, given, noState, freshFrom};
@@ -135,7 +134,7 @@ fn last_mode(m: Mode, bytes: &[u8], k: usize) -> Mode
 pub fn lost(
     setup: panel::Setup,
     shown: [panel::Slot; panel::RECORDS],
-    current: usize,
+    current: panel::SlotNumber,
     m: Mode,
     bytes: &[u8],
     k: usize,
@@ -144,7 +143,7 @@ pub fn lost(
     bad: usize,
 ) -> RunAnswer
     requires { ⌜ (k ≤ length (now bytes) / 8) × Lost (modeOf m) ⌝ }
-    ensures { λ r. ⌜ r ≡ answered setup (onward (panelSeen setup) (settledAt (tableOf shown) current (modeOf m)) (counted frames skipped bad) (eventsFrom (length (now (bytes .entry)) / 8 - k) (now (bytes .entry)) (8 * k))) ⌝ }
+    ensures { λ r. ⌜ r ≡ answered setup (onward (panelSeen setup) (settledAt (tableOf shown) (current .0) (modeOf m)) (counted frames skipped bad) (eventsFrom (length (now (bytes .entry)) / 8 - k) (now (bytes .entry)) (8 * k))) ⌝ }
 {
     let count = bytes.len() / 8;
     let mode = last_mode(m, bytes, k);
@@ -154,7 +153,7 @@ pub fn lost(
             setup,
             shown,
             pending: shown,
-            current: panel::SlotNumber(current),
+            current,
             mode,
         },
         counts: Counts {
@@ -171,11 +170,11 @@ fn kept(
     setup: panel::Setup,
     shown: [panel::Slot; panel::RECORDS],
     pending: [panel::Slot; panel::RECORDS],
-    current: usize,
+    current: panel::SlotNumber,
     frames: usize,
     skipped: usize,
 ) -> RunAnswer
-    ensures { λ r. ⌜ r ≡ answered setup (endingAt (readerOf shown pending current following) (counted frames skipped 0)) ⌝ }
+    ensures { λ r. ⌜ r ≡ answered setup (endingAt (readerOf shown pending (current .0) following) (counted frames skipped 0)) ⌝ }
 {
     RunAnswer {
         verdict: panel::Verdict::Accepted,
@@ -183,7 +182,7 @@ fn kept(
             setup,
             shown,
             pending,
-            current: panel::SlotNumber(current),
+            current,
             mode: Mode::Following,
         },
         counts: Counts {
@@ -200,16 +199,16 @@ pub fn follow(
     setup: panel::Setup,
     shown0: [panel::Slot; panel::RECORDS],
     pending0: [panel::Slot; panel::RECORDS],
-    current0: usize,
+    current0: panel::SlotNumber,
     bytes: &[u8],
 ) -> RunAnswer
-    requires { ⌜ (setupGood base (setupOf setup) ≡ true) × (current0 < 16) ⌝ }
-    ensures { λ r. ⌜ r ≡ answered setup (onward (panelSeen setup) (readerOf shown0 pending0 current0 following) nothing (eventsOf (now (bytes .entry)))) ⌝ }
+    requires { ⌜ (setupGood base (setupOf setup) ≡ true) × (current0 .0 < 16) ⌝ }
+    ensures { λ r. ⌜ r ≡ answered setup (onward (panelSeen setup) (readerOf shown0 pending0 (current0 .0) following) nothing (eventsOf (now (bytes .entry)))) ⌝ }
 {
     let count = bytes.len() / 8;
     let mut shown = shown0;
     let mut pending = pending0;
-    let mut current = current0;
+    let mut current = current0.0;
     let mut frames: usize = 0;
     let mut skipped: usize = 0;
     let mut k: usize = 0;
@@ -225,7 +224,7 @@ pub fn follow(
                 return lost(
                     setup,
                     shown,
-                    current,
+                    panel::SlotNumber(current),
                     Mode::Dropped,
                     bytes,
                     k,
@@ -242,7 +241,7 @@ pub fn follow(
                     return lost(
                         setup,
                         shown,
-                        current,
+                        panel::SlotNumber(current),
                         Mode::Stale,
                         bytes,
                         k,
@@ -256,7 +255,7 @@ pub fn follow(
                 return lost(
                     setup,
                     shown,
-                    current,
+                    panel::SlotNumber(current),
                     Mode::Dropped,
                     bytes,
                     k,
@@ -266,12 +265,12 @@ pub fn follow(
                 );
             }
             acts::Act::Select(s) => {
-                current = s;
+                current = s.0;
             }
             acts::Act::Id(v) => {
                 let old = pending[current];
                 pending[current] = panel::Slot {
-                    id: panel::TrackingId(v),
+                    id: v,
                     x: old.x,
                     y: old.y,
                     pressure: old.pressure,
@@ -288,5 +287,6 @@ pub fn follow(
             }
         }
     }
-    kept(setup, shown, pending, current, frames, skipped)
+    let last = panel::SlotNumber(current);
+    kept(setup, shown, pending, last, frames, skipped)
 }

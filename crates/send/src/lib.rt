@@ -65,11 +65,12 @@ fn put_changes(b: &mut [u8], old: Slot, new: Slot) -> usize
 }
 
 // The same, opened by the slot's number.
-fn put_opened(b: &mut [u8], s: u32, old: Slot, new: Slot) -> usize
-    requires { ⌜ length (bytesSent (sendSlot s ∷ changes 0 (slotOf old) (slotOf new))) ≤ length (now b) ⌝ }
-    ensures { λ r. ⌜ (r ≡ length (bytesSent (sendSlot s ∷ changes 0 (slotOf old) (slotOf new)))) × (now (b .exit) ≡ over (bytesSent (sendSlot s ∷ changes 0 (slotOf old) (slotOf new))) (now (b .entry))) ⌝ }
+fn put_opened(b: &mut [u8], s: SlotNumber, old: Slot, new: Slot) -> usize
+    requires { ⌜ (s .0 < 16) × (length (bytesSent (sendSlot (s .0) ∷ changes 0 (slotOf old) (slotOf new))) ≤ length (now b)) ⌝ }
+    ensures { λ r. ⌜ (r ≡ length (bytesSent (sendSlot (s .0) ∷ changes 0 (slotOf old) (slotOf new)))) × (now (b .exit) ≡ over (bytesSent (sendSlot (s .0) ∷ changes 0 (slotOf old) (slotOf new))) (now (b .entry))) ⌝ }
 {
-    records::put(b, records::ABS, records::SLOT, s);
+    let number = s.0 as u32;
+    records::put(b, records::ABS, records::SLOT, number);
     let n = put_changes(&mut b[8..], old, new);
     8 + n
 }
@@ -99,7 +100,7 @@ pub fn send_frame(
         let s = (z % 16) as usize;
         m = m & (m - 1);
         last = s;
-        let k = put_opened(&mut b[end..], z, old[s], new[s]);
+        let k = put_opened(&mut b[end..], SlotNumber(s), old[s], new[s]);
         end = end + k;
     }
     records::put(&mut b[end..], records::SYN, records::REPORT, 0);

@@ -8,6 +8,8 @@ ghost use Rattle.model.specs.Sending.{oneUnless, sameSlot, changedIn, changedNu
 ghost use Rattle.panel.specs.Seen.{slotOf, tableOf};
 use panel::RECORDS;
 use panel::Slot;
+use panel::SlotNumber;
+use panel::TrackingId;
 
 fn unlike(a: u32, b: u32) -> u32
     ensures { λ r. ⌜ (r ≤ 1) × (r ≡ oneUnless (eqb a b)) ⌝ }
@@ -18,10 +20,10 @@ fn unlike(a: u32, b: u32) -> u32
     1
 }
 
-fn unlike_id(a: i32, b: i32) -> u32
-    ensures { λ r. ⌜ (r ≤ 1) × (r ≡ oneUnless (eqZ a b)) ⌝ }
+fn unlike_id(a: TrackingId, b: TrackingId) -> u32
+    ensures { λ r. ⌜ (r ≤ 1) × (r ≡ oneUnless (eqZ (a .0) (b .0))) ⌝ }
 {
-    if panel::same(a, b) {
+    if panel::same(a.0, b.0) {
         return 0;
     }
     1
@@ -33,7 +35,7 @@ fn differ(a: Slot, b: Slot) -> u32
 {
     let i = a.id;
     let j = b.id;
-    unlike_id(i.0, j.0) + (unlike(a.x, b.x) + (unlike(a.y, b.y) + unlike(a.pressure, b.pressure)))
+    unlike_id(i, j) + (unlike(a.x, b.x) + (unlike(a.y, b.y) + unlike(a.pressure, b.pressure)))
 }
 
 // 1 for a slot that has a changed number.
@@ -65,12 +67,13 @@ pub fn count_changes(old: [Slot; RECORDS], new: [Slot; RECORDS]) -> Tally
 }
 
 // The changed slots without the current one, which is sent first and not opened.
-pub fn without_current(mask: u16, current: usize, old: Slot, new: Slot) -> u16
-    requires { ⌜ (current < 16) × (oneUnless (sameSlot (slotOf old) (slotOf new)) * 2 ^ current ≤ mask) ⌝ }
-    ensures { λ r. ⌜ r ≡ mask - oneUnless (sameSlot (slotOf old) (slotOf new)) * 2 ^ current ⌝ }
+pub fn without_current(mask: u16, current: SlotNumber, old: Slot, new: Slot) -> u16
+    requires { ⌜ (current .0 < 16) × (oneUnless (sameSlot (slotOf old) (slotOf new)) * 2 ^ current .0 ≤ mask) ⌝ }
+    ensures { λ r. ⌜ r ≡ mask - oneUnless (sameSlot (slotOf old) (slotOf new)) * 2 ^ current .0 ⌝ }
 {
     let d = differ(old, new);
-    mask - (some(d) << current)
+    let bit = some(d);
+    mask - (bit << current.0)
 }
 
 // How many slots a changed-slot number names.

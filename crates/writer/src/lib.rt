@@ -157,7 +157,7 @@ fn accept(
     let m = tally::count_changes(old, new);
     let c = current.0;
     let is = new[c];
-    let others = tally::without_current(m.mask, c, was, is);
+    let others = tally::without_current(m.mask, current, was, is);
     let count = event_count(m.numbers, others);
     let need = 8 * count;
     if buf.len() < at {

@@ -11,8 +11,8 @@ use Rattle.acts.proofs.id_act.Tie as tie
 returns : tie.Need-returns
 returns c = rw (c .if1 .taken) (sym id-none)
 
-cast-t3 : tie.Need-cast-t3
-cast-t3 c = search needs
+cast-id : tie.Need-cast-id
+cast-id c = search needs
 
 returns-2 : tie.Need-returns-2
 returns-2 c = rw (toZ-pos w32 (c .before .before .args .value) (omega arith)) (sym (id-small (c .before .before .args .value) (c .if2 .taken)))
@@ -21,4 +21,4 @@ returns-3 : tie.Need-returns-3
 returns-3 c = sym (id-not (c .before .before .args .value) (c .if2 .left) (c .before .if1 .left) (omega arith))
 
 pub id-act-spec : {M : Type 1} → statement M
-id-act-spec = tie.close (tie.spec returns cast-t3 returns-2 returns-3)
+id-act-spec = tie.close (tie.spec returns cast-id returns-2 returns-3)

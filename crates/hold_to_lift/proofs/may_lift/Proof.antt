@@ -24,19 +24,19 @@ enum-told-5 : tie.Need-enum-told-5
 enum-told-5 c = search needs
 
 returns : tie.Need-returns
-returns c = ap lifts (sym (c .enum-told .given .1) ∙ c .before .before .ask .ensures)
+returns c = ap lifts (sym (c .enum-told .given .1) ∙ c .before .before .ask .ensures .answer)
 
 returns-2 : tie.Need-returns-2
-returns-2 c = ap lifts (sym (c .enum-told2 .given .1) ∙ c .before .before .ask .ensures)
+returns-2 c = ap lifts (sym (c .enum-told2 .given .1) ∙ c .before .before .ask .ensures .answer)
 
 returns-3 : tie.Need-returns-3
-returns-3 c = ap lifts (sym (c .enum-told3 .given .1) ∙ c .before .before .ask .ensures)
+returns-3 c = ap lifts (sym (c .enum-told3 .given .1) ∙ c .before .before .ask .ensures .answer)
 
 returns-4 : tie.Need-returns-4
-returns-4 c = ap lifts (sym (c .enum-told4 .given .1) ∙ c .before .before .ask .ensures)
+returns-4 c = ap lifts (sym (c .enum-told4 .given .1) ∙ c .before .before .ask .ensures .answer)
 
 returns-5 : tie.Need-returns-5
-returns-5 c = ap lifts (sym (c .enum-told5 .given .1) ∙ c .before .before .ask .ensures)
+returns-5 c = ap lifts (sym (c .enum-told5 .given .1) ∙ c .before .before .ask .ensures .answer)
 
 pub may-lift-spec : {M : Type 1} → statement M
 may-lift-spec =

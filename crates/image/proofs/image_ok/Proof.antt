@@ -21,7 +21,7 @@ mul-if1 c = search needs
 returns : tie.Need-returns
 returns c =
     let a = c .before .before .args in
-    sym (other-length (a .setup) (a .image .now) (a .current) (c .if1 .taken))
+    sym (other-length (a .setup) (a .image .now) (a .current .0) (c .if1 .taken))
 
 rows-ok-requires : tie.Need-rows-ok-requires
 rows-ok-requires c κs = search needs
@@ -42,8 +42,9 @@ returns-3 c =
 
 returns-4 : tie.Need-returns-4
 returns-4 c =
-    let rows = c .before .before .before .before .before in
-    rw (eq-eqb _ _ (rows .before .if1 .left), ← rows-are rows, not-false (rows .rows-ok .result) (c .before .before .before .before .if2 .left), ← ids-are (c .before .before), not-false (c .before .before .ids-differ .result) (c .before .if3 .left))
+    let ids = c .before .before .before in
+    let rows = ids .before .before .before in
+    rw (eq-eqb _ _ (rows .before .if1 .left), ← rows-are rows, not-false (rows .rows-ok .result) (ids .before .before .if2 .left), ← ids-are ids, not-false (ids .ids-differ .result) (c .before .before .if3 .left))
 
 pub image-ok-spec : {M : Type 1} → statement M
 image-ok-spec =

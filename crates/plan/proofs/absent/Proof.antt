@@ -22,17 +22,18 @@ abbrev μ-loop : tie.MeasureT-loop
 
 -- what a turn's test says of all the ids
 step : (c : tie.After-same Inv-loop μ-loop)
-    → (let a = c .before .before .before .before .args in let j = c .before .before .before .loop .j in
-    unheld (a .v) (a .taken .now) ≡ (not (c .same .result) && unheld (a .v) (drop (j + 1) (a .taken .now))))
+    → (let a = c .before .before .before .before .before .args in let j = c .before .before .before .loop .j in
+    unheld (a .v .0) (a .taken .now) ≡ (not (c .same .result) && unheld (a .v .0) (drop (j + 1) (a .taken .now))))
 step c =
-    let s = c .before .before .before .before in
-    let a = s .args in
+    let a = c .before .before .before .before .before .args in
     let l = c .before .before .before .loop in
+    let v = a .v .0 in
     let q = getD (a .taken .now) (l .j) (pos 0) in
     let f : SFits w32 q = search needs in
-    let inv = rw (toZ-ofZ w32 (a .v) (s .fits .v)) at (l .inv .1) in
-    let same : c .same .result ≡ eqZ (a .v) q = rw (toZ-ofZ w32 (a .v) (s .fits .v), toZ-ofZ w32 q f) at (c .same .ensures) in
-    inv ∙ unheld-step (a .taken .now) (l .j) (pos 0) (a .v) (search needs) ∙ ap (λ t. not t && unheld (a .v) (drop (l .j + 1) (a .taken .now))) (sym same)
+    let g : SFits w32 v = search needs in
+    let inv = rw (toZ-ofZ w32 v g) at (l .inv .1) in
+    let same : c .same .result ≡ eqZ v q = rw (toZ-ofZ w32 v g, toZ-ofZ w32 q f) at (c .same .ensures) in
+    inv ∙ unheld-step (a .taken .now) (l .j) (pos 0) v (search needs) ∙ ap (λ t. not t && unheld v (drop (l .j + 1) (a .taken .now))) (sym same)
 
 loop-holds : tie.Need-loop-holds Inv-loop μ-loop
 loop-holds c = search needs
@@ -57,15 +58,17 @@ loop-less c = search needs
 
 loop-again : tie.Need-loop-again Inv-loop μ-loop
 loop-again c =
-    let s = c .before .before .before .before .before in
-    (search needs, rw (toZ-ofZ w32 (s .args .v) (s .fits .v)) (rw (c .if1 .left) at (step (c .before))))
+    let v = c .before .before .before .before .before .before .args .v .0 in
+    let g : SFits w32 v = search needs in
+    (search needs, rw (toZ-ofZ w32 v g) (rw (c .if1 .left) at (step (c .before))))
 
 returns-2 : tie.Need-returns-2 Inv-loop μ-loop
 returns-2 c =
-    let s = c .before .before in
-    let a = s .args in
-    let e = rw (toZ-ofZ w32 (a .v) (s .fits .v)) at (c .before .loop .inv .1) in
-    sym (e ∙ unheld-end (a .taken .now) (c .before .loop .j) (pos 0) (a .v) (search needs))
+    let a = c .before .before .before .args in
+    let v = a .v .0 in
+    let g : SFits w32 v = search needs in
+    let e = rw (toZ-ofZ w32 v g) at (c .before .loop .inv .1) in
+    sym (e ∙ unheld-end (a .taken .now) (c .before .loop .j) (pos 0) v (search needs))
 
 pub absent-spec : {M : Type 1} → statement M
 absent-spec =

@@ -3,6 +3,7 @@ use mathlib.Core.Path.{_≡_, refl, ap, _∙_}
 use mathlib.Core.Bool.{Bool, true, false, not, cond}
 use lib.IntN.{pos}
 use mir.Syntax.{w32}
+use mir.Val.{SFits}
 use mir.ValLaws.{toZ-ofZ}
 use Rattle.model.specs.Numbers.{eqZ, minusOne}
 use Rattle.model.specs.Frame.{goesOn, begins}
@@ -38,9 +39,11 @@ same-requires-3 c κs = search needs
 
 returns-3 : tie.Need-returns-3
 returns-3 c =
-    let s = c .before .before .before .before .before in
-    let z = rw (toZ-ofZ w32 (s .args .id) (s .fits .id)) at (c .same3 .ensures) in
-    rw (← kind-0 (c .before .before .before .before), c .before .before .before .if1 .left, ← kind-2 (c .before .before), c .before .if2 .left) (z ∙ unused-begins (eqZ (s .args .id) minusOne))
+    let i = c .before .before .before .before .before .before .args .id .0 in
+    let f : SFits w32 i = search needs in
+    let z = rw (toZ-ofZ w32 i f) at (c .same3 .ensures) in
+    let second = c .before .before .before in
+    rw (← kind-0 (second .before .before), second .before .if1 .left, ← kind-2 second, c .before .before .if2 .left) (z ∙ unused-begins (eqZ i minusOne))
 
 pub begins-spec : {M : Type 1} → statement M
 begins-spec =

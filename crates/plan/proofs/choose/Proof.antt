@@ -4,9 +4,7 @@ use mathlib.Core.Path.{_≡_, sym, ap, _∙_}
 use Prim.Native.Nat.{_≤_, _<_, _-_}
 use native.Mathlib.Omega.{arith}
 use lib.IntN.{pos}
-use mir.Syntax.{w32}
-use mir.Val.{SFits}
-use mir.ValLaws.{toZ-ofZ}
+use Rattle.panel.specs.declared.TrackingId.{TrackingId}
 use Rattle.model.specs.Table.{unheld}
 use Rattle.model.specs.Frame.{freeId, pick, next}
 use Rattle.model.proofs.Tries.{freeId-short, pick-stays, pick-held}
@@ -24,9 +22,7 @@ told : (c : tie.After-absent Inv-loop μ-loop) → c .absent .result ≡ unheld 
 told c =
     let l = c .before .before .before .before .args .taken .now in
     let i = c .before .id-of in
-    let f : SFits w32 (i .result) = search needs in
-    let e : c .absent .result ≡ unheld (i .result) l = rw (toZ-ofZ w32 (i .result) f) at (c .absent .ensures) in
-    e ∙ ap (λ v. unheld v l) (i .ensures)
+    c .absent .ensures ∙ ap (λ (v : TrackingId). unheld (v .0) l) (i .ensures)
 
 loop-holds : tie.Need-loop-holds Inv-loop μ-loop
 loop-holds c =

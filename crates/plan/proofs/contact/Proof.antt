@@ -19,11 +19,10 @@ bits-of-requires-3 c κs = search needs
 returns : tie.Need-returns
 returns c =
     let s = c .before .before .before in
-    let i = toZ-ofZ w32 (s .args .id) (s .fits .id) in
     let x = c .before .before .bits-of .ensures ∙ ap bitsOf (toZ-ofZ w32 (s .args .x) (s .fits .x)) in
     let y = c .before .bits-of2 .ensures ∙ ap bitsOf (toZ-ofZ w32 (s .args .y) (s .fits .y)) in
     let p = c .bits-of3 .ensures ∙ ap bitsOf (toZ-ofZ w32 (s .args .pressure) (s .fits .pressure)) in
-    λ t. record { id = record { 0 = i t }; x = x t; y = y t; pressure = p t }
+    λ t. record { id = s .args .id; x = x t; y = y t; pressure = p t }
 
 pub contact-spec : {M : Type 1} → statement M
 contact-spec = tie.close (tie.spec bits-of-requires bits-of-requires-2 bits-of-requires-3 returns)

@@ -6,11 +6,13 @@ use borrow.Author.Needs.{needs}
 use Rattle.plan.proofs.id_of.Statement.{statement}
 use Rattle.plan.proofs.id_of.Tie as tie
 
-cast-result : tie.Need-cast-result
-cast-result c = search needs
+cast-v : tie.Need-cast-v
+cast-v c = search needs
 
 returns : tie.Need-returns
-returns c = toZ-pos w32 (c .args .k) (omega arith)
+returns c =
+    let e = toZ-pos w32 (c .args .k) (omega arith) in
+    λ t. record { 0 = e t }
 
 pub id-of-spec : {M : Type 1} → statement M
-id-of-spec = tie.close (tie.spec cast-result returns)
+id-of-spec = tie.close (tie.spec cast-v returns)

@@ -18,6 +18,7 @@ use Rattle.model.proofs.Bools.{and-left, and-right}
 use Rattle.model.proofs.Rows.{rows-next, rows-none, row-of-four}
 use Rattle.model.proofs.Tries.{Same, same-last}
 use Rattle.panel.specs.declared.Slot.{Slot}
+use Rattle.panel.specs.declared.TrackingId.{TrackingId}
 use Rattle.panel.specs.Seen.{slotOf, tableOf, blank}
 use Rattle.plan.specs.Row.{begun, held, stayed, plainRow, plainRows}
 use Rattle.plan.proofs.Turn.{begun-slot, stayed-slot, begun-taken, begun-counter, stayed-taken, stayed-counter, table-turn, counter-turn}
@@ -36,11 +37,18 @@ abbrev μ-loop : tie.MeasureT-loop
 
 -- ---- slot s and its row, which both arms of the loop start from
 
+-- this turn of the loop, and the call's own place
+abbrev turn : tie.After-begins Inv-loop μ-loop → tie.In-loop Inv-loop μ-loop
+turn b = b .before .before .before .before
+
+abbrev start : tie.After-begins Inv-loop μ-loop → tie.Start Inv-loop μ-loop
+start b = turn b .before .before .before
+
 abbrev fr : tie.After-begins Inv-loop μ-loop → List ℤ
-fr b = b .before .before .before .before .before .before .before .before .args .frame .now
+fr b = start b .args .frame .now
 
 abbrev s : tie.After-begins Inv-loop μ-loop → ℕ
-s b = b .before .before .before .before .before .before .loop .s
+s b = turn b .before .loop .s
 
 abbrev number : ℕ → tie.After-begins Inv-loop μ-loop → ℤ
 number i b = getD (fr b) (4 * s b + i) (pos 0)
@@ -52,48 +60,47 @@ abbrev row : tie.After-begins Inv-loop μ-loop → List ℤ
 row b = kind b ∷ number 1 b ∷ number 2 b ∷ number 3 b ∷ []
 
 abbrev rest : tie.After-begins Inv-loop μ-loop → List (List ℤ)
-rest b = rowsFrom 4 (b .before .before .before .before .before .before .before .before .args .n - (s b + 1)) (fr b) (4 * (s b + 1))
+rest b = rowsFrom 4 (start b .args .n - (s b + 1)) (fr b) (4 * (s b + 1))
 
 abbrev was : tie.After-begins Inv-loop μ-loop → Slot
-was b = getD (b .before .before .before .before .before .before .loop .t) (s b) blank
+was b = getD (turn b .before .loop .t) (s b) blank
 
 abbrev becomes : tie.After-begins Inv-loop μ-loop → Fate
 becomes b = fate (kind b) (was b .id .0)
 
 -- the ids taken so far, and the id that a contact that begins here takes
 abbrev taken : tie.After-begins Inv-loop μ-loop → List ℤ
-taken b = take (b .before .before .before .before .before .before .loop .m) (b .before .before .before .before .before .before .loop .taken)
+taken b = take (turn b .before .loop .m) (turn b .before .loop .taken)
 
 abbrev given : tie.After-begins Inv-loop μ-loop → ℕ
-given b = freeId (taken b) (b .before .before .before .before .before .before .loop .k)
+given b = freeId (taken b) (turn b .before .loop .k)
 
-inside : (b : tie.After-begins Inv-loop μ-loop) → s b < length (b .before .before .before .before .before .before .loop .t)
-inside b = omega (arith, b .before .before .before .before .before .loop-test .taken, b .before .before .before .before .before .before .loop .inv .3, b .before .before .before .before .before .before .before .before .pre .0)
+inside : (b : tie.After-begins Inv-loop μ-loop) → s b < length (turn b .before .loop .t)
+inside b = omega (arith, turn b .loop-test .taken, turn b .before .loop .inv .3, start b .pre .0)
 
-rows-are : (b : tie.After-begins Inv-loop μ-loop) → rowsFrom 4 (b .before .before .before .before .before .before .before .before .args .n - s b) (fr b) (4 * s b) ≡ row b ∷ rest b
-rows-are b = rows-next 4 (b .before .before .before .before .before .before .before .before .args .n) (s b) (fr b) (b .before .before .before .before .before .loop-test .taken) ∙ ap {B = List (List ℤ)} (λ r. r ∷ rest b) (row-of-four (fr b) (4 * s b))
+rows-are : (b : tie.After-begins Inv-loop μ-loop) → rowsFrom 4 (start b .args .n - s b) (fr b) (4 * s b) ≡ row b ∷ rest b
+rows-are b = rows-next 4 (start b .args .n) (s b) (fr b) (turn b .loop-test .taken) ∙ ap {B = List (List ℤ)} (λ r. r ∷ rest b) (row-of-four (fr b) (4 * s b))
 
 plain : (b : tie.After-begins Inv-loop μ-loop) → (plainRow (row b) && plainRows (rest b)) ≡ true
-plain b = sym (ap plainRows (rows-are b)) ∙ b .before .before .before .before .before .before .loop .inv .5
+plain b = sym (ap plainRows (rows-are b)) ∙ turn b .before .loop .inv .5
 
 begins-is : (b : tie.After-begins Inv-loop μ-loop) → b .begins .result ≡ begun (becomes b)
 begins-is b =
     let f : SFits w32 (kind b) = search needs in
-    let g : SFits w32 (was b .id .0) = search needs in
-    rw (toZ-ofZ w32 (kind b) f, toZ-ofZ w32 (was b .id .0) g) at (b .begins .ensures)
+    rw (toZ-ofZ w32 (kind b) f) at (b .begins .ensures)
 
 -- What is left to make, once the slot is w, the ids taken are `more` and the counter is k.
-module _ (b : tie.After-begins Inv-loop μ-loop) (w : Slot) (more : List ℤ) (k : ℕ) (same : Same (takenAfter (becomes b) (given b) (taken b)) more) (count : counterAfter (becomes b) (given b) (b .before .before .before .before .before .before .loop .k) ≡ k) where
+module _ (b : tie.After-begins Inv-loop μ-loop) (w : Slot) (more : List ℤ) (k : ℕ) (same : Same (takenAfter (becomes b) (given b) (taken b)) more) (count : counterAfter (becomes b) (given b) (turn b .before .loop .k) ≡ k) where
   table-left : slotOf w ≡ slotAfter (becomes b) (given b) (slotOf (was b)) (number 1 b ∷ number 2 b ∷ number 3 b ∷ [])
-      → newTable (b .before .before .before .before .before .before .before .before .args .counter) (rowsFrom 4 (b .before .before .before .before .before .before .before .before .args .n) (fr b) 0) (tableOf (b .before .before .before .before .before .before .before .before .args .old)) ≡ tableOf (take (s b + 1) (set (b .before .before .before .before .before .before .loop .t) (s b) w)) ++ tableFrom more k (rest b) (tableOf (drop (s b + 1) (set (b .before .before .before .before .before .before .loop .t) (s b) w)))
+      → newTable (start b .args .counter) (rowsFrom 4 (start b .args .n) (fr b) 0) (tableOf (start b .args .old)) ≡ tableOf (take (s b + 1) (set (turn b .before .loop .t) (s b) w)) ++ tableFrom more k (rest b) (tableOf (drop (s b + 1) (set (turn b .before .loop .t) (s b) w)))
   table-left e =
-      b .before .before .before .before .before .before .loop .inv .6 ∙ ap (λ r. tableOf (take (s b) (b .before .before .before .before .before .before .loop .t)) ++ tableFrom (taken b) (b .before .before .before .before .before .before .loop .k) r (tableOf (drop (s b) (b .before .before .before .before .before .before .loop .t)))) (rows-are b)
-      ∙ table-turn (taken b) (b .before .before .before .before .before .before .loop .k) (b .before .before .before .before .before .before .loop .t) (s b) (inside b) (row b) (rest b) w more k e same count
+      turn b .before .loop .inv .6 ∙ ap (λ r. tableOf (take (s b) (turn b .before .loop .t)) ++ tableFrom (taken b) (turn b .before .loop .k) r (tableOf (drop (s b) (turn b .before .loop .t)))) (rows-are b)
+      ∙ table-turn (taken b) (turn b .before .loop .k) (turn b .before .loop .t) (s b) (inside b) (row b) (rest b) w more k e same count
 
-  counter-left : newCounter (b .before .before .before .before .before .before .before .before .args .counter) (rowsFrom 4 (b .before .before .before .before .before .before .before .before .args .n) (fr b) 0) (tableOf (b .before .before .before .before .before .before .before .before .args .old)) ≡ counterFrom more k (rest b) (tableOf (drop (s b + 1) (set (b .before .before .before .before .before .before .loop .t) (s b) w)))
+  counter-left : newCounter (start b .args .counter) (rowsFrom 4 (start b .args .n) (fr b) 0) (tableOf (start b .args .old)) ≡ counterFrom more k (rest b) (tableOf (drop (s b + 1) (set (turn b .before .loop .t) (s b) w)))
   counter-left =
-      b .before .before .before .before .before .before .loop .inv .7 ∙ ap (λ r. counterFrom (taken b) (b .before .before .before .before .before .before .loop .k) r (tableOf (drop (s b) (b .before .before .before .before .before .before .loop .t)))) (rows-are b)
-      ∙ counter-turn (taken b) (b .before .before .before .before .before .before .loop .k) (b .before .before .before .before .before .before .loop .t) (s b) (inside b) (row b) (rest b) w more k same count
+      turn b .before .loop .inv .7 ∙ ap (λ r. counterFrom (taken b) (turn b .before .loop .k) r (tableOf (drop (s b) (turn b .before .loop .t)))) (rows-are b)
+      ∙ counter-turn (taken b) (turn b .before .loop .k) (turn b .before .loop .t) (s b) (inside b) (row b) (rest b) w more k same count
 
 ids-of-requires : tie.Need-ids-of-requires Inv-loop μ-loop
 ids-of-requires c κs = search needs
@@ -139,17 +146,19 @@ array-share-prefix-taken c = search needs
 
 slice-aggregate-choose : tie.Need-slice-aggregate-choose Inv-loop μ-loop
 slice-aggregate-choose c =
-    let l = c .before .before .before .before .before .before .before .before .loop in
-    let st = c .before .before .before .before .before .before .before .before .before .before in
-    let h : l .s < st .args .n = c .before .before .before .before .before .before .before .loop-test .taken in
+    let b = c .before .before in
+    let l = turn b .before .loop in
+    let st = start b in
+    let h : l .s < st .args .n = turn b .loop-test .taken in
     let fit : l .m ≤ length (l .taken) = omega (arith, l .inv .1, l .inv .4, st .pre .0) in
     sym (length-take-le (l .m) (l .taken) fit)
 
 choose-requires : tie.Need-choose-requires Inv-loop μ-loop
 choose-requires c κs =
-    let l = c .before .before .before .before .before .before .before .before .loop in
-    let st = c .before .before .before .before .before .before .before .before .before .before in
-    let h : l .s < st .args .n = c .before .before .before .before .before .before .before .loop-test .taken in
+    let b = c .before .before in
+    let l = turn b .before .loop in
+    let st = start b in
+    let h : l .s < st .args .n = turn b .loop-test .taken in
     let fit : l .m ≤ length (l .taken) = omega (arith, l .inv .1, l .inv .4, st .pre .0) in
     let few : length (take (l .m) (l .taken)) ≡ l .m = length-take-le (l .m) (l .taken) fit in
     (omega (arith, few, l .inv .1, st .pre .0), l .inv .2)
@@ -213,26 +222,26 @@ loop-less c = search needs
 
 loop-again : tie.Need-loop-again Inv-loop μ-loop
 loop-again c =
-    let b = c .before .before .before .before .before .before .before .before .before in
-    let l = b .before .before .before .before .before .before .loop in
-    let h : l .s < b .before .before .before .before .before .before .before .before .args .n = b .before .before .before .before .before .loop-test .taken in
+    let b = c .before .before .before .before .before .before .before .before .before .before in
+    let l = turn b .before .loop in
+    let h : l .s < start b .args .n = turn b .loop-test .taken in
     let j = given b in
     let f1 : SFits w32 (number 1 b) = search needs in
     let f2 : SFits w32 (number 2 b) = search needs in
     let f3 : SFits w32 (number 3 b) = search needs in
-    let yes : begun (becomes b) ≡ true = sym (begins-is b) ∙ c .before .before .before .before .before .before .before .before .if1 .taken in
-    let id = c .before .before .before .before .before .id-of in
-    let ji : c .before .before .before .before .before .before .choose .result ≡ j = c .before .before .before .before .before .before .choose .ensures .1 in
-    let fi : SFits w32 (id .result) = search needs in
-    let v : id .result ≡ pos j = id .ensures ∙ ap pos ji in
-    let w = c .before .contact .result in
-    let e : w ≡ held (pos j) (number 1 b) (number 2 b) (number 3 b) = rw (toZ-ofZ w32 (id .result) fi, toZ-ofZ w32 (number 1 b) f1, toZ-ofZ w32 (number 2 b) f2, toZ-ofZ w32 (number 3 b) f3, v) at (c .before .contact .ensures) in
-    let fit : l .m < length (l .taken) = omega (arith, l .inv .1, l .inv .4, b .before .before .before .before .before .before .before .before .pre .0) in
+    let yes : begun (becomes b) ≡ true = sym (begins-is b) ∙ c .before .before .before .before .before .before .before .before .before .if1 .taken in
+    let id = c .before .before .before .before .before .before .id-of in
+    let ji : c .before .before .before .before .before .before .before .choose .result ≡ j = c .before .before .before .before .before .before .before .choose .ensures .1 in
+    let fi : SFits w32 (id .result .0) = search needs in
+    let v : id .result .0 ≡ pos j = ap (λ (x : TrackingId). x .0) (id .ensures) ∙ ap pos ji in
+    let w = c .before .before .contact .result in
+    let e : w ≡ held (pos j) (number 1 b) (number 2 b) (number 3 b) = rw (toZ-ofZ w32 (number 1 b) f1, toZ-ofZ w32 (number 2 b) f2, toZ-ofZ w32 (number 3 b) f3, v) at (c .before .before .contact .ensures) in
+    let fit : l .m < length (l .taken) = omega (arith, l .inv .1, l .inv .4, start b .pre .0) in
     let more = take (l .m + 1) (set (l .taken) (l .m) (pos j)) in
     let last : more ≡ taken b ++ pos j ∷ [] = rw add-one (take-suc-set (l .taken) (l .m) (pos j) fit) in
     let same : Same (takenAfter (becomes b) j (taken b)) more = rw (last, begun-taken (becomes b) j (taken b) yes) (same-last (pos j) (taken b)) in
     let count : counterAfter (becomes b) j (l .k) ≡ c .after .result = begun-counter (becomes b) j (l .k) yes ∙ sym (c .after .ensures ∙ ap next ji) in
-    rw (toZ-ofZ w32 (id .result) fi, v) (
+    rw (toZ-ofZ w32 (id .result .0) fi, v) (
       omega arith,
       omega (arith, l .inv .1),
       omega (arith, c .after .ensures),
@@ -288,8 +297,8 @@ loop-less-2 c = search needs
 loop-again-2 : tie.Need-loop-again-2 Inv-loop μ-loop
 loop-again-2 c =
     let b = c .before .before .before .before .before in
-    let l = b .before .before .before .before .before .before .loop in
-    let h : l .s < b .before .before .before .before .before .before .before .before .args .n = b .before .before .before .before .before .loop-test .taken in
+    let l = turn b .before .loop in
+    let h : l .s < start b .args .n = turn b .loop-test .taken in
     let f0 : SFits w32 (kind b) = search needs in
     let f1 : SFits w32 (number 1 b) = search needs in
     let f2 : SFits w32 (number 2 b) = search needs in

@@ -23,12 +23,10 @@ contact-requires c κs = search needs
 
 returns-2 : tie.Need-returns-2
 returns-2 c =
-    let s = c .before .before .before .before .before in
+    let s = c .before .before .before .before in
     let a = s .args in
-    let i = a .was .id .0 in
-    let f : SFits w32 i = search needs in
-    rw (← kind-0 (c .before .before .before .before), c .before .before .before .if1 .left)
-    (rw (toZ-ofZ w32 i f, toZ-ofZ w32 (a .x) (s .fits .x), toZ-ofZ w32 (a .y) (s .fits .y), toZ-ofZ w32 (a .pressure) (s .fits .pressure)) at (c .contact .ensures))
+    rw (← kind-0 (c .before .before .before), c .before .before .if1 .left)
+    (rw (toZ-ofZ w32 (a .x) (s .fits .x), toZ-ofZ w32 (a .y) (s .fits .y), toZ-ofZ w32 (a .pressure) (s .fits .pressure)) at (c .contact .ensures))
 
 pub stays-spec : {M : Type 1} → statement M
 stays-spec = tie.close (tie.spec same-requires returns contact-requires returns-2)

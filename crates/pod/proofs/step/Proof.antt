@@ -12,6 +12,7 @@ use Rattle.pod.specs.declared.PodState.{PodState}
 use Rattle.pod.specs.declared.Report.{Report}
 use Rattle.pod.specs.declared.PodAnswer.{PodAnswer}
 use Rattle.pod.specs.Seen.{kindSeen, seen, freshState, heldStep}
+use Rattle.pod.proofs.Laws.{answers}
 use Rattle.pod.proofs.step.Statement.{statement}
 use Rattle.pod.proofs.step.Tie as tie
 
@@ -34,7 +35,7 @@ returns : tie.Need-returns
 returns c =
     let s = seen (c .before .before .args .state) in
     let e : wellFormed s ≡ false = sym (c .before .well-formed .ensures) ∙ not-true (c .before .well-formed .result) (c .if1 .taken) in
-    ap heldStep (sym (step-refused s (c .before .before .args .byte) e))
+    answers _ _ _ (ap heldStep (sym (step-refused s (c .before .before .args .byte) e)))
 
 first-of-requires : tie.Need-first-of-requires
 first-of-requires c κs = search needs
@@ -59,7 +60,7 @@ returns-2 c =
     let s = seen (c .before .before .before .before .before .before .before .args .state) in
     let b = c .before .before .before .before .before .before .before .args .byte in
     let l : s .count + 1 < lengthOf (kindOf (firstOf (heldIn s) b)) = omega (arith, c .if2 .taken, c .before .length-of .ensures, ap lengthOf (opened (c .before .before))) in
-    ap heldStep (sym (step-more s b (accepted (c .before .before .before .before .before)) l))
+    answers _ _ _ (ap heldStep (sym (step-more s b (accepted (c .before .before .before .before .before)) l)))
 
 judge-requires : tie.Need-judge-requires
 judge-requires c κs = search needs
@@ -73,7 +74,9 @@ returns-3 c =
     let b = c .before .before .before .before .before .before .before .before .before .args .byte in
     let k = opened (c .before .before .before .before) in
     let l : lengthOf (kindOf (firstOf (heldIn s) b)) ≤ s .count + 1 = omega (arith, c .before .before .if2 .left, c .before .before .before .length-of .ensures, ap lengthOf k) in
-    answered (search needs) (rw k at (c .before .judge .ensures)) ∙ ap heldStep (sym (step-last s b (accepted (c .before .before .before .before .before .before .before)) l))
+    answers _ _ _
+    (answered (search needs) (rw k at (c .before .judge .ensures))
+    ∙ ap heldStep (sym (step-last s b (accepted (c .before .before .before .before .before .before .before)) l)))
 
 pub step-spec : {M : Type 1} → statement M
 step-spec =

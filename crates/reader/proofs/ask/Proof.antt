@@ -10,6 +10,7 @@ use Rattle.model.proofs.Answers.{ask-bad-state, ask-no-slot, ask-slot}
 use Rattle.runs.specs.Seen.{seen}
 use Rattle.reader.specs.Seen.{askedFrom}
 use Rattle.reader.proofs.States.{good-small}
+use Rattle.reader.proofs.Back.{answers}
 use Rattle.reader.proofs.ask.Statement.{statement}
 use Rattle.reader.proofs.ask.Tie as tie
 
@@ -23,13 +24,15 @@ good c = sym (c .before .state-ok .ensures) ∙ not-false (c .before .state-ok .
 returns : tie.Need-returns
 returns c =
     let a = c .before .before .args in
-    sym (ap askedFrom (ask-bad-state base (seen (a .state)) (a .slot .0) (sym (c .before .state-ok .ensures) ∙ not-true (c .before .state-ok .result) (c .if1 .taken))))
+    answers (a .state) (a .slot .0) _
+    (sym (ap askedFrom (ask-bad-state base (seen (a .state)) (a .slot .0) (sym (c .before .state-ok .ensures) ∙ not-true (c .before .state-ok .result) (c .if1 .taken)))))
 
 returns-2 : tie.Need-returns-2
 returns-2 c =
     let p = c .before .before .before in
     let a = p .before .before .args in
-    sym (ap askedFrom (ask-no-slot base (seen (a .state)) (a .slot .0) (good p) (le-ltb (a .slot .0) (a .state .setup .n) (c .if2 .taken))))
+    answers (a .state) (a .slot .0) _
+    (sym (ap askedFrom (ask-no-slot base (seen (a .state)) (a .slot .0) (good p) (le-ltb (a .slot .0) (a .state .setup .n) (c .if2 .taken)))))
 
 answer-in-requires : tie.Need-answer-in-requires
 answer-in-requires c κs =
@@ -40,7 +43,9 @@ returns-3 : tie.Need-returns-3
 returns-3 c =
     let p = c .before .before .before .before .before in
     let a = p .before .before .args in
-    c .answer-in .ensures ∙ sym (ap askedFrom (ask-slot base (seen (a .state)) (a .slot .0) (good p) (lt-ltb (a .slot .0) (a .state .setup .n) (c .before .before .if2 .left))))
+    answers (a .state) (a .slot .0) _
+    (c .answer-in .ensures
+    ∙ sym (ap askedFrom (ask-slot base (seen (a .state)) (a .slot .0) (good p) (lt-ltb (a .slot .0) (a .state .setup .n) (c .before .before .if2 .left)))))
 
 pub ask-spec : {M : Type 1} → statement M
 ask-spec = tie.close (tie.spec state-ok-requires returns returns-2 answer-in-requires returns-3)

@@ -5,10 +5,7 @@ use Prim.Native.Nat.{_+_, _-_, _*_, _/_, _≤_, _<_}
 use native.Mathlib.Omega.{arith}
 use lib.IntN.{pos}
 use lib.ListN.{length, getD, length-set}
-use mir.Syntax.{w32}
-use mir.Val.{SFits, toZ, ofZ}
-use mir.ValLaws.{toZ-ofZ}
-use Rattle.model.specs.Events.{classify, number}
+use Rattle.model.specs.Events.{classify}
 use Rattle.model.specs.Reader.{following, nothing}
 use Rattle.model.specs.Records.{eventAt, eventsFrom}
 use Rattle.panel.specs.Seen.{panelSeen, blank}
@@ -21,10 +18,10 @@ use Rattle.runs.proofs.follow.Statement.{statement}
 use Rattle.runs.proofs.follow.Tie as tie
 
 abbrev Inv-loop : tie.InvT-loop
-Inv-loop setup current0 bytes count shown₀ pending₀ current₀ frames₀ skipped₀ k₀ shown pending current frames skipped k = (k ≤ count) × (current < 16) × (frames + skipped ≤ k) × (length pending ≡ 16) × (onward (panelSeen setup) (readerOf shown₀ pending₀ current₀ following) nothing (eventsFrom count bytes 0) ≡ onward (panelSeen setup) (readerOf shown pending current following) (sofar frames skipped) (eventsFrom (count - k) bytes (8 * k)))
+Inv-loop setup bytes count shown₀ pending₀ current₀ frames₀ skipped₀ k₀ shown pending current frames skipped k = (k ≤ count) × (current < 16) × (frames + skipped ≤ k) × (length pending ≡ 16) × (onward (panelSeen setup) (readerOf shown₀ pending₀ current₀ following) nothing (eventsFrom count bytes 0) ≡ onward (panelSeen setup) (readerOf shown pending current following) (sofar frames skipped) (eventsFrom (count - k) bytes (8 * k)))
 
 abbrev μ-loop : tie.MeasureT-loop
-μ-loop setup current0 bytes count shown₀ pending₀ current₀ frames₀ skipped₀ k₀ shown pending current frames skipped k = count - k
+μ-loop setup bytes count shown₀ pending₀ current₀ frames₀ skipped₀ k₀ shown pending current frames skipped k = count - k
 
 -- what the record asks
 asked : (c : tie.After-act-of Inv-loop μ-loop) → classify (panelSeen (c .before .before .before .before .before .args .setup)) (eventAt (c .before .before .before .before .before .args .bytes .now) (8 * c .before .before .before .loop .k)) ≡ actOf (c .act-of .result)
@@ -130,7 +127,7 @@ loop-again-3 c =
     let a = c .before .before .before .before .before .before .before .before .args in
     let l = c .before .before .before .before .before .before .loop in
     let s = a .bytes .now in
-    let j = c .before .a .given .0 .0 in
+    let j = c .before .a .given .0 .0 .0 in
     let e = asked (c .before .before .before) ∙ ap actOf (c .before .a .given .1) in
     let d : j < a .setup .n = selected (a .setup) (eventAt s (8 * l .k)) j e in
     (search needs, omega (arith, d, small (a .setup) (c .before .before .before .before .before .before .before .before .pre .0) .n), search needs, l .inv .3, l .inv .4 ∙ selects (a .setup) s (length s / 8) (l .k) (search needs) (l .shown) (l .pending) (l .current) (l .frames) (l .skipped) j e)
@@ -159,11 +156,9 @@ loop-again-4 c =
     let l = c .before .before .before .before .before .before .before .loop in
     let s = a .bytes .now in
     let v = c .before .before .a2 .given .0 .0 in
-    let f : SFits w32 v = search needs in
     let p = getD (l .pending) (l .current) blank in
     let h : l .current < length (l .pending) = omega (arith, l .inv) in
-    let z = toZ w32 (ofZ w32 v) in
-    (search needs, search needs, search needs, simp length-set (l .inv .3), l .inv .4 ∙ stores (a .setup) s (length s / 8) (l .k) (search needs) (l .shown) (l .pending) (l .current) (l .frames) (l .skipped) 0 z (record { id = record { 0 = z }; x = p .x; y = p .y; pressure = p .pressure }) (asked (c .before .before .before .before) ∙ ap actOf (c .before .before .a2 .given .1) ∙ ap (number 0) (sym (toZ-ofZ w32 v f))) h refl)
+    (search needs, search needs, search needs, simp length-set (l .inv .3), l .inv .4 ∙ stores (a .setup) s (length s / 8) (l .k) (search needs) (l .shown) (l .pending) (l .current) (l .frames) (l .skipped) 0 (v .0) (record { id = v; x = p .x; y = p .y; pressure = p .pressure }) (asked (c .before .before .before .before) ∙ ap actOf (c .before .before .a2 .given .1)) h refl)
 
 enum-known-a-3 : tie.Need-enum-known-a-3 Inv-loop μ-loop
 enum-known-a-3 c = search needs

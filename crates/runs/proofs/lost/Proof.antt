@@ -15,7 +15,7 @@ sub-t12 c = search needs
 returns : tie.Need-returns
 returns c =
     let a = c .before .before .args in
-    lost-answer (a .setup) (a .shown) (a .current) (a .m) (c .last-mode .result) (a .frames) (a .skipped) (a .bad) (a .bytes .now) (length (a .bytes .now) / 8) (a .k) (c .before .before .pre .1) (c .last-mode .ensures)
+    lost-answer (a .setup) (a .shown) (a .current .0) (a .m) (c .last-mode .result) (a .frames) (a .skipped) (a .bad) (a .bytes .now) (length (a .bytes .now) / 8) (a .k) (c .before .before .pre .1) (c .last-mode .ensures)
 
 pub lost-spec : {M : Type 1} → statement M
 lost-spec = tie.close (tie.spec last-mode-requires sub-t12 returns)

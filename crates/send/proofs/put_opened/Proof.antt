@@ -15,28 +15,31 @@ use Rattle.send.proofs.put_opened.Statement.{statement}
 use Rattle.send.proofs.put_opened.Tie as tie
 
 abbrev A : tie.Start → List ℕ
-A s = recordBytes 3 0x2f (s .args .s)
+A s = recordBytes 3 0x2f (s .args .s .0)
 
 abbrev B : tie.Start → List ℕ
 B s = bytesSent (changes 0 (slotOf (s .args .old)) (slotOf (s .args .new)))
 
 eight : (s : tie.Start) → 8 ≡ length (A s)
-eight s = sym (record-length 3 0x2f (s .args .s))
+eight s = sym (record-length 3 0x2f (s .args .s .0))
 
-whole : (s : tie.Start) → bytesSent (sendSlot (s .args .s) ∷ changes 0 (slotOf (s .args .old)) (slotOf (s .args .new))) ≡ A s ++ B s
-whole s = opened-bytes (s .args .s) (changes 0 (slotOf (s .args .old)) (slotOf (s .args .new)))
+whole : (s : tie.Start) → bytesSent (sendSlot (s .args .s .0) ∷ changes 0 (slotOf (s .args .old)) (slotOf (s .args .new))) ≡ A s ++ B s
+whole s = opened-bytes (s .args .s .0) (changes 0 (slotOf (s .args .old)) (slotOf (s .args .new)))
 
 room : (s : tie.Start) → length (A s ++ B s) ≤ length (s .args .b .now)
-room s = rw (whole s) at (s .pre)
+room s = rw (whole s) at (s .pre .1)
+
+cast-number : tie.Need-cast-number
+cast-number c = search needs
 
 put-requires : tie.Need-put-requires
 put-requires c κs =
-    let s = c .before .before in
+    let s = c .before .before .before in
     omega (arith, length-append (A s) (B s), room s, eight s)
 
 sub-put-changes : tie.Need-sub-put-changes
 sub-put-changes c =
-    let s = c .before .before .before .before .before in
+    let s = c .before .before .before .before .before .before in
     let p = c .before .before .put in
     two-start (A s) (B s) (s .args .b .now) (p .last .0) 8 (eight s) (p .ensures)
 
@@ -48,13 +51,13 @@ part-put-changes-end c = search needs
 
 put-changes-requires : tie.Need-put-changes-requires
 put-changes-requires c κs =
-    let s = c .before .before .before .before .before .before in
+    let s = c .before .before .before .before .before .before .before in
     let p = c .before .before .before .put in
     two-room (A s) (B s) (s .args .b .now) (p .last .0) 8 (eight s) (p .ensures) (room s)
 
 add-result : tie.Need-add-result
 add-result c =
-    let s = c .before .before .before .before .before .before .before .before .before in
+    let s = c .before .before .before .before .before .before .before .before .before .before in
     let q = c .before .before .put-changes in
     omega (arith, two-sum (A s) (B s) 8 (q .result) (eight s) (q .ensures .0), room s, s .good)
 
@@ -63,7 +66,7 @@ same-length c = search needs
 
 returns : tie.Need-returns
 returns c =
-    let s = c .before .before .before .before .before .before .before .before .before in
+    let s = c .before .before .before .before .before .before .before .before .before .before in
     let p = c .before .before .before .before .before .before .put in
     let q = c .before .before .put-changes in
     rw (whole s) (two-sum (A s) (B s) 8 (q .result) (eight s) (q .ensures .0), two-put (A s) (B s) (s .args .b .now) (p .last .0) 8 (eight s) (p .ensures) (q .last .0) (q .ensures .1))
@@ -72,6 +75,7 @@ pub put-opened-spec : {M : Type 1} → statement M
 put-opened-spec =
     tie.close
     (tie.spec
+    cast-number
     put-requires
     sub-put-changes
     part-put-changes-start

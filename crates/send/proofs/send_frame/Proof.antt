@@ -85,8 +85,11 @@ split-bytes c =
 more-room : (c : tie.In-loop Inv-loop μ-loop) → c .before .loop .end + length (B c ++ L c) ≤ length (c .before .loop .b)
 more-room c = rw (split-bytes c) at (c .before .loop .inv .2)
 
+below : (c : tie.In-loop Inv-loop μ-loop) → z c < 16
+below c = trailing-below 16 (c .before .loop .m) (nonzero c) (c .before .loop .inv .0)
+
 place : (c : tie.In-loop Inv-loop μ-loop) → z c % 16 ≡ z c
-place c = omega (arith, trailing-below 16 (c .before .loop .m) (nonzero c) (c .before .loop .inv .0))
+place c = omega (arith, below c)
 
 -- ---- after the loop: the report
 
@@ -172,7 +175,7 @@ put-opened-requires : tie.Need-put-opened-requires Inv-loop μ-loop
 put-opened-requires c κs =
     let i = c .before .before .before in
     let l = i .before .loop in
-    rw (place i) (turn-room (l .end) (length (B i)) (B i) (L i) (l .b) [] refl (more-room i))
+    rw (place i) (below i, turn-room (l .end) (length (B i)) (B i) (L i) (l .b) [] refl (more-room i))
 
 add-end-2 : tie.Need-add-end-2 Inv-loop μ-loop
 add-end-2 c =

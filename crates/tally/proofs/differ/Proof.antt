@@ -2,9 +2,6 @@
 use mathlib.Core.Path.{_≡_}
 use native.Mathlib.Omega.{arith}
 use lib.Dec.{eqb}
-use mir.Syntax.{w32}
-use mir.Val.{SFits}
-use mir.ValLaws.{toZ-ofZ}
 use Rattle.model.specs.Numbers.{eqZ}
 use Rattle.model.specs.Sending.{oneUnless}
 use borrow.Author.Needs.{needs}
@@ -34,10 +31,8 @@ add-result-3 c = search needs
 
 returns : tie.Need-returns
 returns c =
-    let a = c .before .before .before .before .before .before .before .before .args in
-    let f : SFits w32 (a .a .id .0) = search needs in
-    let g : SFits w32 (a .b .id .0) = search needs in
-    let e : c .before .before .before .unlike-id .result ≡ oneUnless (eqZ (a .a .id .0) (a .b .id .0)) = rw (toZ-ofZ w32 (a .a .id .0) f, toZ-ofZ w32 (a .b .id .0) g) at (c .before .before .before .unlike-id .ensures .1) in
+    let a = c .before .before .before .before .before .before .args in
+    let e : c .before .before .before .unlike-id .result ≡ oneUnless (eqZ (a .a .id .0) (a .b .id .0)) = c .before .before .before .unlike-id .ensures .1 in
     let x : c .before .before .unlike .result ≡ oneUnless (eqb (a .a .x) (a .b .x)) = c .before .before .unlike .ensures .1 in
     let y : c .before .unlike2 .result ≡ oneUnless (eqb (a .a .y) (a .b .y)) = c .before .unlike2 .ensures .1 in
     let p : c .unlike3 .result ≡ oneUnless (eqb (a .a .pressure) (a .b .pressure)) = c .unlike3 .ensures .1 in

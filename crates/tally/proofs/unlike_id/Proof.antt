@@ -2,6 +2,7 @@
 use mathlib.Core.Path.{_≡_, sym, ap, _∙_}
 use native.Mathlib.Omega.{arith}
 use mir.Syntax.{w32}
+use mir.Val.{SFits}
 use mir.ValLaws.{toZ-ofZ}
 use Rattle.model.specs.Numbers.{eqZ}
 use Rattle.model.specs.Sending.{oneUnless}
@@ -9,10 +10,12 @@ use borrow.Author.Needs.{needs}
 use Rattle.tally.proofs.unlike_id.Statement.{statement}
 use Rattle.tally.proofs.unlike_id.Tie as tie
 
-same-is : (c : tie.After-same) → c .same .result ≡ eqZ (c .before .args .a) (c .before .args .b)
+same-is : (c : tie.After-same) → (let a = c .before .before .before .args in c .same .result ≡ eqZ (a .a .0) (a .b .0))
 same-is c =
-    let s = c .before in
-    rw (toZ-ofZ w32 (s .args .a) (s .fits .a), toZ-ofZ w32 (s .args .b) (s .fits .b)) at (c .same .ensures)
+    let a = c .before .before .before .args in
+    let f : SFits w32 (a .a .0) = search needs in
+    let g : SFits w32 (a .b .0) = search needs in
+    rw (toZ-ofZ w32 (a .a .0) f, toZ-ofZ w32 (a .b .0) g) at (c .same .ensures)
 
 same-requires : tie.Need-same-requires
 same-requires c κs = search needs

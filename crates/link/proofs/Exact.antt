@@ -1,0 +1,78 @@
+-- Demand 1 of the code, refusals exactly as stated: for each call and each of its refusals, document 01's number is answered if and only if its test
+-- fails and the earlier ones pass, and 0 if and only if all pass. Cited by docs/PROMISES.md. Assumes nothing.
+use mathlib.Core.Path.{_≡_, sym, ap, _∙_, subst}
+use mathlib.Core.List.{List}
+use Prim.Native.Nat.{ℕ}
+use lib.IntN.{ℤ}
+use lib.ListN.{length}
+use Rattle.model.specs.Panel.{base}
+use Rattle.model.specs.Calls as C
+use Rattle.model.specs.Calls.{freshWriterCall, freshReaderCall, writeCall, runCall, stepCall, loadCall}
+use Rattle.model.specs.Refusals.{Row, Exact, freshRows, writeRows, runRows, stateRows, loadRows}
+use Rattle.model.proofs.Calls.{ask-exact}
+use Rattle.model.proofs.Exact as M
+use Rattle.panel.specs.declared.Setup.{Setup}
+use Rattle.panel.specs.declared.Verdict.{Verdict}
+use Rattle.panel.specs.Seen.{setupOf, verdictFrom, verdictNumber}
+use Rattle.panel.proofs.Back.{number-seen}
+use Rattle.records.specs.declared.Event.{Event}
+use Rattle.records.specs.Seen.{eventOf}
+use Rattle.writer.specs.declared.WriterState.{WriterState}
+use Rattle.writer.specs.declared.FreshWriter.{FreshWriter}
+use Rattle.writer.specs.declared.Written.{Written}
+use Rattle.writer.specs.Seen as W
+use Rattle.runs.specs.declared.ReaderState.{ReaderState}
+use Rattle.runs.specs.declared.RunAnswer.{RunAnswer}
+use Rattle.runs.specs.declared.FreshAnswer.{FreshAnswer}
+use Rattle.runs.specs.Seen.{seen}
+use Rattle.reader.specs.declared.SlotAnswer.{SlotAnswer}
+use Rattle.reader.specs.declared.LoadAnswer.{LoadAnswer}
+use Rattle.reader.specs.Seen.{refusalOf}
+use Rattle.reader.proofs.Back.{answers}
+use Rattle.link.specs.Promises.{WriterMade, Wrote, ReaderMade, Ran, ReadOne, Loaded, Asked}
+
+-- What is exact of the model's verdict is exact of the one that is held of it.
+held-exact : (rows : List Row) (w : C.Verdict) (v : Verdict) → v ≡ verdictFrom w → Exact (C.verdictNumber w) rows → Exact (verdictNumber v) rows
+held-exact rows w v e x = subst (λ n. Exact n rows) (sym (ap verdictNumber e ∙ number-seen w)) x
+
+-- `WriterState::fresh`: 1.
+pub writer-made-exact : (u : Setup) (r : FreshWriter) → WriterMade u r → Exact (verdictNumber (r .verdict)) (freshRows base (setupOf u))
+writer-made-exact u r e =
+    let m = freshWriterCall base (setupOf u) in
+    held-exact (freshRows base (setupOf u)) (m .verdict) (r .verdict) (ap (λ (x : FreshWriter). x .verdict) e) (M.fresh-writer-exact base (setupOf u))
+
+-- `write`: 2, 3, 4, 5.
+pub wrote-exact : (s : WriterState) (f : List ℤ) (at : ℕ) (buf : List ℕ) (r : Written) (after : List ℕ) → Wrote s f at buf r after
+    → Exact (verdictNumber (r .verdict)) (writeRows base (W.seen s) f at (length buf))
+wrote-exact s f at buf r after w =
+    let m = writeCall base (W.seen s) f at (length buf) in
+    held-exact (writeRows base (W.seen s) f at (length buf)) (m .verdict) (r .verdict) (ap (λ (x : Written). x .verdict) (w .0))
+    (M.write-exact base (W.seen s) f at (length buf))
+
+-- `ReaderState::fresh`: 1.
+pub reader-made-exact : (u : Setup) (r : FreshAnswer) → ReaderMade u r → Exact (verdictNumber (r .verdict)) (freshRows base (setupOf u))
+reader-made-exact u r e =
+    let m = freshReaderCall base (setupOf u) in
+    held-exact (freshRows base (setupOf u)) (m .verdict) (r .verdict) (ap (λ (x : FreshAnswer). x .verdict) e) (M.fresh-reader-exact base (setupOf u))
+
+-- `run`: 2, 6.
+pub ran-exact : (s : ReaderState) (bs : List ℕ) (q : RunAnswer) → Ran s bs q → Exact (verdictNumber (q .verdict)) (runRows base (seen s) bs)
+ran-exact s bs q e =
+    let m = runCall base (seen s) bs in
+    held-exact (runRows base (seen s) bs) (m .verdict) (q .verdict) (ap (λ (x : RunAnswer). x .verdict) e) (M.run-exact base (seen s) bs)
+
+-- `read_one`: 2.
+pub read-one-exact : (s : ReaderState) (e : Event) (q : RunAnswer) → ReadOne s e q → Exact (verdictNumber (q .verdict)) (stateRows base (seen s))
+read-one-exact s e q h =
+    let m = stepCall base (seen s) (eventOf e) in
+    held-exact (stateRows base (seen s)) (m .verdict) (q .verdict) (ap (λ (x : RunAnswer). x .verdict) h) (M.step-exact base (seen s) (eventOf e))
+
+-- `load`: 2, 7, 8.
+pub loaded-exact : (s : ReaderState) (m : List ℤ) (c : ℕ) (q : LoadAnswer) → Loaded s m c q → Exact (verdictNumber (q .verdict)) (loadRows base (seen s) m c)
+loaded-exact s m c q e =
+    let l = loadCall base (seen s) m c in
+    held-exact (loadRows base (seen s) m c) (l .verdict) (q .verdict) (ap (λ (x : LoadAnswer). x .verdict) e) (M.load-exact base (seen s) m c)
+
+-- `ask`: 2.
+pub asked-exact : (s : ReaderState) (k : ℕ) (r : SlotAnswer) → Asked s k r → Exact (refusalOf r) (stateRows base (seen s))
+asked-exact s k r e = subst (λ n. Exact n (stateRows base (seen s))) (sym (answers s k r e .number)) (ask-exact base (seen s) k)
