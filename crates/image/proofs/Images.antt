@@ -5,8 +5,8 @@ use mathlib.Core.List.{List, [], _∷_, _++_, append-assoc, map-append}
 use Prim.Native.Nat.{ℕ, zero, suc, _+_, _-_, _*_, _≤_, _<_}
 use native.Mathlib.Omega.{arith}
 use lib.IntN.{ℤ}
-use lib.ListN.{length, set, replicate, length-append, length-map, length-replicate}
-use lib.Seq.{set-at}
+use lib.ListN.{length, drop, set, replicate, length-append, length-map, length-replicate, replicate-append-replicate}
+use lib.Seq.{set-at, drop-at}
 use borrow.Author.Tests.{eq-eqb, ne-eqb}
 use Rattle.model.specs.Panel.{Field}
 use Rattle.model.specs.Table as T
@@ -15,7 +15,7 @@ use Rattle.model.specs.Calls.{imageTable, imageGood}
 use Rattle.model.proofs.Calls.{length-rowsFrom}
 use Rattle.model.proofs.Rows.{rows-next, rows-none}
 use Rattle.model.proofs.Tables.{good-pad, map-replicate}
-use Rattle.panel.specs.Seen.{tableOf, slotFrom, tableFrom, fieldsOf, panelSeen, unused, unusedAll}
+use Rattle.panel.specs.Seen.{tableOf, slotFrom, tableFrom, fieldsOf, panelSeen, unused, unusedAll, sameFrom}
 use Rattle.panel.specs.declared.Slot.{Slot}
 use Rattle.panel.specs.declared.Setup.{Setup}
 
@@ -67,6 +67,17 @@ pub filled-end : (u : Setup) (l : List ℤ) → filled l (u .n) ≡ tableFrom (i
 filled-end u l =
     let t = rowsFrom 4 (u .n) l 0 in
     sym (map-append slotFrom t (replicate (16 - u .n) (T.unusedSlot (fieldsOf u))) ∙ ap (λ w. tableFrom t ++ w) (map-replicate slotFrom (16 - u .n) (T.unusedSlot (fieldsOf u))))
+
+-- Past the image's slots it was never used.
+pub filled-rest : (u : Setup) (l : List ℤ) → u .n ≤ 16 → sameFrom (u .n) (tableFrom (imageTable (panelSeen u) l)) unusedAll
+filled-rest u l h =
+    let n = u .n in
+    let r = replicate (16 - n) unused in
+    let whole : n + (16 - n) ≡ 16 = omega arith in
+    let a : drop n (filled l n) ≡ r = drop-at (tableFrom (rowsFrom 4 n l 0)) r n (length-map (rowsFrom 4 n l 0) slotFrom ∙ length-rowsFrom 4 n l 0) in
+    let all : unusedAll ≡ replicate n unused ++ r = sym (replicate-append-replicate n (16 - n) unused ∙ ap (λ k. replicate k unused) whole) in
+    let b : drop n unusedAll ≡ r = ap (drop n) all ∙ drop-at (replicate n unused) r n (length-replicate n unused) in
+    ap (λ t. tableOf (drop n t)) (sym (filled-end u l)) ∙ ap tableOf (a ∙ sym b)
 
 -- ---- the image's tests
 

@@ -80,7 +80,7 @@ pub fn image_ok(setup: panel::Setup, image: &[i32], current: panel::SlotNumber) 
     if !rows_ok(setup, image) {
         return false;
     }
-    if !panel::ids_differ(image_table(setup, image)) {
+    if !panel::ids_differ(setup.n, image_table(setup, image)) {
         return false;
     }
     current.0 < setup.n

@@ -4,8 +4,8 @@ use mathlib.Core.Bool.{true, false, _&&_}
 use mathlib.Core.List.{List, [], _∷_, _++_}
 use Prim.Native.Nat.{ℕ, zero, suc, _+_, _-_, _*_, _/_, _%_, _^_, _≤_, _<_, min}
 use native.Mathlib.Omega.{arith}
-use native.Mathlib.Nat.{add-zero, zero-add, pow-suc, mul-assoc}
-use lib.Bits.{bitAnd, and-step, and-self}
+use native.Mathlib.Nat.{add-zero, zero-add, pow-suc}
+use lib.Bits.{bitAnd, and-step, and-self, and-zero-r, and-le-l}
 use lib.Count.{ones, ones-step, trailingZeros, under}
 use lib.ListN.{length, getD}
 use Rattle.model.proofs.Count.{oneUnless-le}
@@ -166,13 +166,18 @@ others-ones (suc c) (o ∷ old) (v ∷ new) =
     let m = othersMask c old new in
     ones-step (b + 2 * m) ∙ ap₂ (λ x y. x + ones y) (low-bit b m (oneUnless-le (sameSlot o v))) (high-bits b m (oneUnless-le (sameSlot o v))) ∙ ap (λ x. b + x) (others-ones c old new)
 
-pub mask-split : (c : ℕ) (old new : Table) → c < length old → c < length new
-    → changedMask old new ≡ othersMask c old new + oneUnless (sameSlot (getD old c []) (getD new c [])) * 2 ^ c
-mask-split c [] new h g = absurd (omega arith)
-mask-split c (o ∷ old) [] h g = absurd (omega arith)
-mask-split zero (o ∷ old) (v ∷ new) h g = omega arith
-mask-split (suc c) (o ∷ old) (v ∷ new) h g =
-    let b = oneUnless (sameSlot (getD old c []) (getD new c [])) in
-    let p : 2 ^ suc c ≡ 2 ^ c * 2 = pow-suc 2 c in
-    let q : b * 2 ^ suc c ≡ b * 2 ^ c * 2 = ap (λ x. b * x) p ∙ sym (mul-assoc b (2 ^ c) 2) in
-    omega (arith, mask-split c old new (omega arith) (omega arith), q)
+-- The changed slots' number, with the bit taken out of the slot that stands c places on.
+pub mask-without : (c : ℕ) (old new : Table) → changedMask old new - bitAnd (changedMask old new) (2 ^ c) ≡ othersMask c old new
+mask-without c [] new = omega arith
+mask-without c (o ∷ old) [] = omega arith
+mask-without zero (o ∷ old) (v ∷ new) =
+    let m = oneUnless (sameSlot o v) + 2 * changedMask old new in
+    omega (arith, oneUnless-le (sameSlot o v), and-step m 1, and-zero-r (m / 2))
+mask-without (suc c) (o ∷ old) (v ∷ new) =
+    let b = oneUnless (sameSlot o v) in
+    let m = changedMask old new in
+    let p : 2 ^ suc c / 2 ≡ 2 ^ c = omega (arith, pow-suc 2 c) in
+    let z : 2 ^ suc c % 2 ≡ 0 = omega (arith, pow-suc 2 c) in
+    let h : (b + 2 * m) / 2 ≡ m = high-bits b m (oneUnless-le (sameSlot o v)) in
+    let s = and-step (b + 2 * m) (2 ^ suc c) ∙ ap₂ (λ x y. x * 2 + min ((b + 2 * m) % 2) y) (ap₂ bitAnd h p) z in
+    omega (arith, s, mask-without c old new, and-le-l m (2 ^ c))

@@ -2,6 +2,7 @@
 pub mod Signs
 pub mod Slots
 pub mod Tables
+pub mod Apart
 pub mod Back
 pub mod Setups
 pub mod Unique

@@ -1,8 +1,9 @@
 -- The code's slots, tables, setups and verdicts as the model's, and back. Every code crate's contracts go through it. Assumes nothing.
+use mathlib.Core.Path.{_≡_}
 use mathlib.Core.List.{List, [], _∷_, map}
 use Prim.Native.Nat.{ℕ}
 use lib.IntN.{ℤ, pos, negsuc}
-use lib.ListN.{getD, replicate}
+use lib.ListN.{getD, drop, replicate}
 use Rattle.model.specs.Numbers.{minusOne}
 use Rattle.model.specs.Panel as P
 use Rattle.model.specs.Table as T
@@ -47,6 +48,10 @@ unused = record { id = record { 0 = minusOne }; x = 0; y = 0; pressure = 0 }
 -- Sixteen of them.
 abbrev pub unusedAll : List Slot
 unusedAll = replicate 16 unused
+
+-- Two tables hold the same from record n up. With an unused table on one side: the other was never used there.
+abbrev pub sameFrom : ℕ → List Slot → List Slot → Type 0
+sameFrom n a b = tableOf (drop n a) ≡ tableOf (drop n b)
 
 -- Sixteen records of zeros.
 abbrev pub zeros : List Slot

@@ -1,13 +1,13 @@
 // The panel's types, and the tests of a setup, a slot and a table. The reader and the writer stand on it.
 ghost use mathlib.Core.Path.{_≡_};
-ghost use mathlib.Core.Bool.{_&&_};
 ghost use mathlib.Core.List.{_∷_, []};
-ghost use Prim.Native.Nat.{_<_, _≤_, _-_};
+ghost use Prim.Native.Nat.{_<_, _≤_};
 ghost use lib.IntN.{pos};
+ghost use lib.ListN.{take, drop};
 ghost use Rattle.model.specs.Numbers.{eqZ, between as betweenN, betweenZ};
 ghost use Rattle.model.specs.Panel.{base, setupGood, idField};
-ghost use Rattle.model.specs.Table.{fits, goodSlot, eqSlot, eqTable, idsDiffer as idsApart, goodPlace, goodRecords};
-ghost use Rattle.panel.specs.Seen.{natural, slotOf, tableOf, setupOf, fieldsOf, axesOf, unused, unusedAll, zeros, verdictNumber};
+ghost use Rattle.model.specs.Table.{ids, unheld, fits, goodSlot, eqSlot, eqTable, idsDiffer as idsApart, goodRecords};
+ghost use Rattle.panel.specs.Seen.{natural, slotOf, tableOf, setupOf, fieldsOf, axesOf, unused, unusedAll, sameFrom, zeros, verdictNumber};
 
 // A slot number and a tracking id are kinds of number that must not be mixable: a lifted id taken for a slot would move another finger.
 pub struct SlotNumber(pub usize);
@@ -218,14 +218,34 @@ fn slot_unused(s: Slot) -> bool
     slots_same(s, Slot::unused())
 }
 
-// Whether record i is a good slot, or unused where it stands from n up.
-fn place_ok(setup: Setup, i: usize, s: Slot) -> bool
-    ensures { λ r. ⌜ r ≡ goodPlace (fieldsOf setup) (setup .n - i) (slotOf s) ⌝ }
+// Whether the panel's slots are good, whatever stands past them.
+fn slots_ok(setup: Setup, t: [Slot; RECORDS]) -> bool
+    requires { ⌜ setup .n ≤ 16 ⌝ }
+    ensures { λ r. ⌜ r ≡ goodRecords (fieldsOf setup) (setup .n) (tableOf (take (setup .n) t)) ⌝ }
 {
-    if i < setup.n {
-        return slot_ok(setup, s);
+    let n = setup.n;
+    let mut i: usize = 0;
+    while i < n {
+        if !slot_ok(setup, t[i]) {
+            return false;
+        }
+        i += 1;
     }
-    slot_unused(s)
+    true
+}
+
+// Whether the records from n up were never used.
+fn rest_unused(n: usize, t: [Slot; RECORDS]) -> bool
+    ensures { λ r. ⌜ r ≡ eqTable (tableOf (drop n t)) (tableOf (drop n unusedAll)) ⌝ }
+{
+    let mut i = n;
+    while i < RECORDS {
+        if !slot_unused(t[i]) {
+            return false;
+        }
+        i += 1;
+    }
+    true
 }
 
 // Whether the first n records are good slots, and the others unused.
@@ -233,50 +253,67 @@ pub fn table_ok(setup: Setup, t: [Slot; RECORDS]) -> bool
     requires { ⌜ setup .n ≤ 16 ⌝ }
     ensures { λ r. ⌜ r ≡ goodRecords (fieldsOf setup) (setup .n) (tableOf t) ⌝ }
 {
-    let mut i: usize = 0;
-    while i < RECORDS {
-        if !place_ok(setup, i, t[i]) {
+    if !slots_ok(setup, t) {
+        return false;
+    }
+    rest_unused(setup.n, t)
+}
+
+// Whether v is none of the first k ids.
+fn unheld_before(t: [Slot; RECORDS], k: usize, v: i32) -> bool
+    requires { ⌜ k ≤ 16 ⌝ }
+    ensures { λ r. ⌜ r ≡ unheld v (ids (tableOf (take k t))) ⌝ }
+{
+    let mut j: usize = 0;
+    while j < k {
+        let o = t[j];
+        let p = o.id;
+        if same(v, p.0) {
             return false;
         }
-        i += 1;
+        j += 1;
     }
     true
 }
 
-// Whether all live ids differ.
-pub fn ids_differ(t: [Slot; RECORDS]) -> bool
+// Whether all live ids differ, of which the first n slots alone may have one. An id falls on one of 64 bits: only one that falls on a bit again is compared with those before it.
+pub fn ids_differ(n: usize, t: [Slot; RECORDS]) -> bool
+    requires { ⌜ (n ≤ 16) × sameFrom n t unusedAll ⌝ }
     ensures { λ r. ⌜ r ≡ idsApart (tableOf t) ⌝ }
 {
-    let mut i: usize = 0;
-    while i < RECORDS {
-        let s = t[i];
-        let q = s.id;
+    let mut met: u64 = 0;
+    let mut k: usize = 0;
+    while k < n {
+        let s = k;
+        let c = t[s];
+        let q = c.id;
         let v = q.0;
-        i += 1;
+        k += 1;
         if !same(v, -1) {
-            let mut j = i;
-            while j < RECORDS {
-                let o = t[j];
-                let p = o.id;
-                if same(v, p.0) {
+            let bit = 1u64 << (nat_of(v) % 64);
+            if met & bit == 0 {
+                met = met | bit;
+            } else {
+                if !unheld_before(t, s, v) {
                     return false;
                 }
-                j += 1;
             }
         }
     }
     true
 }
 
-pub fn tables_same(a: [Slot; RECORDS], b: [Slot; RECORDS]) -> bool
+// Whether two tables are the same that hold the same from record n up.
+pub fn tables_same(n: usize, a: [Slot; RECORDS], b: [Slot; RECORDS]) -> bool
+    requires { ⌜ (n ≤ 16) × sameFrom n a b ⌝ }
     ensures { λ r. ⌜ r ≡ eqTable (tableOf a) (tableOf b) ⌝ }
 {
-    let mut i: usize = 0;
-    while i < RECORDS {
-        if !slots_same(a[i], b[i]) {
+    let mut s: usize = 0;
+    while s < n {
+        if !slots_same(a[s], b[s]) {
             return false;
         }
-        i += 1;
+        s += 1;
     }
     true
 }

@@ -1,4 +1,4 @@
--- One turn of the plan: what a slot becomes, and the table and counter that are left to make. Cited by the proofs here; `good-plain` by the writer. Assumes nothing.
+-- One turn of the plan: what a slot becomes, and the table and counter that are left to make. Cited by the proofs here; `good-plain` and `rest-stays` by the writer. Assumes nothing.
 use mathlib.Core.Path.{_≡_, refl, sym, ap, ap₂, _∙_}
 use mathlib.Core.Bool.{Bool, true, false, cond, _&&_, _||_}
 use mathlib.Core.List.{List, [], _∷_, _++_, append-assoc, map-append}
@@ -10,14 +10,14 @@ use lib.ListN.{length, take, drop, getD, set}
 use lib.Seq.{take-suc-set, drop-set-lt}
 use lib.Signed.{leZ}
 use Rattle.model.specs.Numbers.{eqZ, betweenZ}
-use Rattle.model.specs.Table.{Table, numbersOf, goodSlot, live}
+use Rattle.model.specs.Table.{Table, idOf, numbersOf, ids, goodSlot, live}
 use Rattle.model.specs.Records.{bitsOf}
-use Rattle.model.specs.Frame.{numbersFrom, rowsFrom, kindOf, goodRow, goodRows, Fate, none, goesOn, begins, fate, freeId, slotAfter, takenAfter, counterAfter, tableFrom, counterFrom}
+use Rattle.model.specs.Frame.{numbersFrom, rowsFrom, kindOf, goodRow, goodRows, Fate, none, goesOn, begins, fate, freeId, slotAfter, takenAfter, counterAfter, tableFrom, counterFrom, newTable}
 use Rattle.model.proofs.Bools.{and-left, and-right}
 use Rattle.model.proofs.Tries.{Same, table-same, counter-same}
 use Rattle.panel.specs.declared.Slot as S
 use Rattle.panel.specs.declared.Setup.{Setup}
-use Rattle.panel.specs.Seen.{slotOf, tableOf, axesOf, blank}
+use Rattle.panel.specs.Seen.{slotOf, tableOf, axesOf, blank, sameFrom}
 use Rattle.panel.proofs.Tables.{rest-is}
 use Rattle.plan.specs.Row.{begun, held, stayed, unsigned, plainRow, plainRows}
 
@@ -147,3 +147,24 @@ module _ (taken : List ℤ) (k : ℕ) (t : List S.Slot) (s : ℕ) (h : s < lengt
       ∙ counter-same (takenAfter becomes given taken) more (counterAfter becomes given k) fr d q
       ∙ ap (λ m. counterFrom more m fr d) r
       ∙ ap (λ l. counterFrom more n fr (tableOf l)) (sym kept-is)
+
+-- ---- the records without a row
+
+unrowed : (taken : List ℤ) (k : ℕ) (fr : List (List ℤ)) (t : Table) → drop (length fr) (tableFrom taken k fr t) ≡ drop (length fr) t
+unrowed taken k [] t = refl
+unrowed taken k (g ∷ fr) [] = refl
+unrowed taken k (g ∷ fr) (s ∷ t) =
+    let f = fate (kindOf g) (idOf s) in
+    let j = freeId taken k in
+    unrowed (takenAfter f j taken) (counterAfter f j k) fr t
+
+rest-seen : (t : List S.Slot) (n : ℕ) → tableOf (drop n t) ≡ drop n (tableOf t)
+rest-seen t zero = refl
+rest-seen [] (suc n) = refl
+rest-seen (s ∷ t) (suc n) = rest-seen t n
+
+-- They stay.
+pub rest-stays : (old new : List S.Slot) (k : ℕ) (fr : List (List ℤ)) → tableOf new ≡ newTable k fr (tableOf old) → sameFrom (length fr) old new
+rest-stays old new k fr e =
+    let n = length fr in
+    rest-seen old n ∙ sym (rest-seen new n ∙ ap (drop n) e ∙ unrowed (ids (tableOf old)) k fr (tableOf old))

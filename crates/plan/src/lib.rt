@@ -7,7 +7,7 @@ ghost use lib.ListN.{length, take};
 ghost use Rattle.model.specs.Numbers.{eqZ};
 ghost use Rattle.model.specs.Table.{ids, unheld};
 ghost use Rattle.model.specs.Frame.{fate, freeId, next, rowsFrom, newTable, newCounter};
-ghost use Rattle.panel.specs.Seen.{tableOf};
+ghost use Rattle.panel.specs.Seen.{tableOf, unusedAll, sameFrom};
 ghost use Rattle.plan.specs.Row.{begun, held, stayed, plainRows};
 use panel::RECORDS;
 use panel::Slot;
@@ -16,19 +16,18 @@ use panel::TrackingId;
 // The most ids that are taken in a frame: every old one, and one given to each slot.
 const TAKEN: usize = 2 * RECORDS;
 
-// Whether v is none of the taken ids.
+// Whether v is none of the taken ids. All are compared, found or not: without a way out of the loop the compiler takes four at a time.
 fn absent(taken: &[i32], v: TrackingId) -> bool
     ensures { λ r. ⌜ r ≡ unheld (v .0) (now (taken .entry)) ⌝ }
 {
     let id = v.0;
+    let mut found = false;
     let mut j: usize = 0;
     while j < taken.len() {
-        if panel::same(id, taken[j]) {
-            return false;
-        }
+        found = found | panel::same(id, taken[j]);
         j += 1;
     }
-    true
+    !found
 }
 
 fn id_of(k: u32) -> TrackingId
@@ -63,13 +62,14 @@ fn choose(taken: &[i32], from: u32) -> u32
     k
 }
 
-// The ids of a table, with room for those that a frame gives.
-fn ids_of(t: [Slot; RECORDS]) -> [i32; TAKEN]
-    ensures { λ r. ⌜ take 16 r ≡ ids (tableOf t) ⌝ }
+// The ids of a table's first n slots, with room for those that a frame gives.
+fn ids_of(n: usize, t: [Slot; RECORDS]) -> [i32; TAKEN]
+    requires { ⌜ n ≤ 16 ⌝ }
+    ensures { λ r. ⌜ take n r ≡ ids (tableOf (take n t)) ⌝ }
 {
     let mut l = [0; TAKEN];
     let mut i: usize = 0;
-    while i < RECORDS {
+    while i < n {
         let s = t[i];
         let q = s.id;
         let v = q.0;
@@ -128,13 +128,13 @@ pub struct Planned {
     pub counter: u32,
 }
 
-// The table and the counter after n good rows. An ending or replaced contact's id stays taken to the end of the frame.
+// The table and the counter after n good rows, of a table that was never used past n slots. An ending or replaced contact's id stays taken to the end of the frame.
 pub fn plan_frame(n: usize, old: [Slot; RECORDS], counter: u32, frame: &[i32]) -> Planned
-    requires { ⌜ (n ≤ 16) × (counter < 65536) × (length (now frame) ≡ 4 * n) × (plainRows (rowsFrom 4 n (now frame) 0) ≡ true) ⌝ }
+    requires { ⌜ (n ≤ 16) × (counter < 65536) × (length (now frame) ≡ 4 * n) × (plainRows (rowsFrom 4 n (now frame) 0) ≡ true) × sameFrom n old unusedAll ⌝ }
     ensures { λ r. ⌜ (tableOf (r .table) ≡ newTable counter (rowsFrom 4 n (now (frame .entry)) 0) (tableOf old)) × (r .counter ≡ newCounter counter (rowsFrom 4 n (now (frame .entry)) 0) (tableOf old)) ⌝ }
 {
-    let mut taken = ids_of(old);
-    let mut m = RECORDS;
+    let mut taken = ids_of(n, old);
+    let mut m = n;
     let mut t = old;
     let mut k = counter;
     let mut s: usize = 0;

@@ -18,9 +18,10 @@ use Rattle.model.specs.Calls.{imageTable, imageGood}
 use Rattle.model.proofs.Bools.{is-true, both-left}
 use Rattle.model.proofs.Tables.{eqTable→eq}
 use Rattle.model.proofs.Calls.{reader-state}
-use Rattle.panel.specs.Seen.{tableOf, setupOf, panelSeen}
+use Rattle.panel.specs.Seen.{tableOf, setupOf, panelSeen, unusedAll, sameFrom}
 use Rattle.panel.specs.declared.Setup.{Setup}
 use Rattle.panel.proofs.Setups.{holds, Small, small}
+use Rattle.panel.proofs.Tables.{table-rest}
 use Rattle.records.specs.Seen.{over, eventOf}
 use Rattle.records.specs.declared.Event.{Event}
 use Rattle.records.proofs.Over.{record-length, over-same}
@@ -46,6 +47,9 @@ module _ (s : ReaderState) (g : readerGood base (seen s) ≡ true) where
 
   pub good-current : s .current .0 < s .setup .n
   good-current = reader-state base (seen s) (holds _ g) .reader .below
+
+  pub good-rest : sameFrom (s .setup .n) (s .pending) unusedAll
+  good-rest = table-rest (s .setup) (s .pending) (reader-state base (seen s) (holds _ g) .reader .pends)
 
   pub good-settled : Lost (modeOf (s .mode)) → tableOf (s .pending) ≡ tableOf (s .shown)
   good-settled = settles (modeOf (s .mode)) (tableOf (s .shown)) (tableOf (s .pending)) (reader-state base (seen s) (holds _ g) .reader .settles)

@@ -9,7 +9,7 @@ ghost use Rattle.model.specs.Records.{eventsOf};
 ghost use Rattle.model.specs.Reader.{following, run as runOver};
 ghost use Rattle.model.specs.States.{settled, readerGood, goodReader};
 ghost use Rattle.model.specs.Calls.{runCall, stepCall, isStale as staleMode, loadCall, askCall, askedIn};
-ghost use Rattle.panel.specs.Seen.{slotOf, tableOf, panelSeen};
+ghost use Rattle.panel.specs.Seen.{slotOf, tableOf, panelSeen, sameFrom};
 ghost use Rattle.records.specs.Seen.{eventOf};
 ghost use Rattle.runs.specs.Seen.{modeOf, seen, ranFrom};
 ghost use Rattle.runs.specs.Runs.{answered};
@@ -36,15 +36,17 @@ pub enum SlotAnswer {
 // Whether nothing is pending where the mode says so.
 fn settled_ok(
     m: Mode,
+    n: usize,
     shown: [panel::Slot; panel::RECORDS],
     pending: [panel::Slot; panel::RECORDS],
 ) -> bool
+    requires { ⌜ (n ≤ 16) × sameFrom n shown pending ⌝ }
     ensures { λ r. ⌜ r ≡ settled (modeOf m) (tableOf shown) (tableOf pending) ⌝ }
 {
     match m {
         Mode::Following => true,
-        Mode::Dropped => panel::tables_same(shown, pending),
-        Mode::Stale => panel::tables_same(shown, pending),
+        Mode::Dropped => panel::tables_same(n, shown, pending),
+        Mode::Stale => panel::tables_same(n, shown, pending),
     }
 }
 
@@ -61,7 +63,7 @@ fn tables_ok(s: ReaderState) -> bool
     if !panel::table_ok(setup, pending) {
         return false;
     }
-    if !panel::ids_differ(shown) {
+    if !panel::ids_differ(setup.n, shown) {
         return false;
     }
     let current = s.current;
@@ -69,7 +71,7 @@ fn tables_ok(s: ReaderState) -> bool
         return false;
     }
     let mode = s.mode;
-    settled_ok(mode, shown, pending)
+    settled_ok(mode, setup.n, shown, pending)
 }
 
 // Whether a state is well formed.

@@ -1,12 +1,13 @@
 -- A turn of the reader's loop, as the model sees it: one law for each arm, over the loop's locals. Cited by the proofs of `follow`, `lost` and `kept`. Assumes nothing.
-use mathlib.Core.Path.{_≡_, sym, ap, _∙_, subst}
-use mathlib.Core.Bool.{true, false}
+use mathlib.Core.Path.{_≡_, refl, sym, ap, _∙_, subst}
+use mathlib.Core.Bool.{Bool, true, false, false≢true}
 use mathlib.Core.List.{List, [], _∷_}
 use Prim.Native.Nat.{ℕ, zero, suc, _+_, _-_, _*_, _≤_, _<_}
 use native.Mathlib.Omega.{arith}
 use lib.Dec.{ltb→lt}
 use lib.IntN.{ℤ}
-use lib.ListN.{length, getD, set}
+use lib.ListN.{length, getD, set, length-set}
+use lib.Seq.{drop-set-lt}
 use Rattle.model.specs.Table as T
 use Rattle.model.specs.Events as E
 use Rattle.model.specs.Events.{classify}
@@ -15,7 +16,7 @@ use Rattle.model.specs.Reader as R
 use Rattle.model.specs.Reader.{Lost, settledAt}
 use Rattle.model.proofs.Bytes.{events-length}
 use Rattle.model.proofs.ReaderSteady.{Fit, fit}
-use Rattle.panel.specs.Seen.{slotOf, tableOf, fieldsOf, panelSeen, blank}
+use Rattle.panel.specs.Seen.{slotOf, tableOf, fieldsOf, panelSeen, blank, unusedAll, sameFrom}
 use Rattle.panel.specs.declared.Slot.{Slot}
 use Rattle.panel.specs.declared.Setup.{Setup}
 use Rattle.panel.specs.declared.Verdict.the-variants as W
@@ -60,6 +61,39 @@ pub onSlot-set : (f : T.Slot → T.Slot) (t : List Slot) (c : ℕ) (x : Slot) �
 onSlot-set f [] c x l e = absurd (omega arith)
 onSlot-set f (y ∷ t) zero x l e = ap {B = T.Table} (λ s. s ∷ tableOf t) (sym e)
 onSlot-set f (y ∷ t) (suc c) x l e = ap {B = T.Table} (λ u. slotOf y ∷ u) (onSlot-set f t c x (omega arith) e)
+
+ids-stay : (t : List Slot) (c : ℕ) (x : Slot) → x .id .0 ≡ getD t c blank .id .0 → T.ids (tableOf (set t c x)) ≡ T.ids (tableOf t)
+ids-stay [] c x e = refl
+ids-stay (y ∷ t) zero x e = ap {B = List ℤ} (λ v. v ∷ T.ids (tableOf t)) e
+ids-stay (y ∷ t) (suc c) x e = ap {B = List ℤ} (λ l. y .id .0 ∷ l) (ids-stay t c x e)
+
+-- ---- the pending table
+
+-- What the loop holds of it: its size, that it was never used past n slots, and that its ids differ unless one was written.
+pub record Pending (n : ℕ) (written : Bool) (t : List Slot) : Type 0 where
+  pub sixteen : length t ≡ 16
+  pub rest : sameFrom n t unusedAll
+  pub apart : written ≡ false → T.idsDiffer (tableOf t) ≡ true
+
+-- A table whose ids nobody compared.
+pub uncompared : (n : ℕ) (t : List Slot) → length t ≡ 16 → sameFrom n t unusedAll → Pending n true t
+uncompared n t e r = record { sixteen = e; rest = r; apart = λ w. absurd (false≢true (sym w)) }
+
+pub compared : (n : ℕ) (w o : Bool) (t : List Slot) → Pending n w t → T.idsDiffer (tableOf t) ≡ true → Pending n o t
+compared n w o t p d = record { sixteen = p .sixteen; rest = p .rest; apart = λ e. d }
+
+module _ (n : ℕ) (w : Bool) (t : List Slot) (p : Pending n w t) (c : ℕ) (x : Slot) (h : c < n) where
+  size-stays : length (set t c x) ≡ 16
+  size-stays = length-set t c x ∙ p .sixteen
+
+  rest-stays : sameFrom n (set t c x) unusedAll
+  rest-stays = ap tableOf (drop-set-lt n t c x h) ∙ p .rest
+
+  pub with-id : Pending n true (set t c x)
+  with-id = uncompared n (set t c x) size-stays rest-stays
+
+  pub with-number : x .id .0 ≡ getD t c blank .id .0 → Pending n w (set t c x)
+  with-number e = record { sixteen = size-stays; rest = rest-stays; apart = λ f. ap T.liveDiffer (ids-stay t c x e) ∙ p .apart f }
 
 -- ---- a turn of the loop
 

@@ -7,7 +7,7 @@ ghost use Rattle.model.specs.Panel.{base, setupGood};
 ghost use Rattle.model.specs.Records.{eventsFrom, eventsOf};
 ghost use Rattle.model.specs.Reader.{following, Lost, nothing, settledAt};
 ghost use Rattle.model.specs.Calls.{freshReaderCall};
-ghost use Rattle.panel.specs.Seen.{tableOf, setupOf, panelSeen};
+ghost use Rattle.panel.specs.Seen.{tableOf, setupOf, panelSeen, unusedAll, sameFrom};
 ghost use Rattle.records.specs.Seen.{eventOf};
 ghost use Rattle.runs.specs.Seen.{modeOf, readerOf, given, noState, freshFrom};
 ghost use Rattle.runs.specs.Runs.{onward, heard, onLost, lastMode as modeAfter, counted, endingAt, answered};
@@ -195,6 +195,7 @@ fn kept(
 }
 
 // A run that begins following. The tables are changed in place: a table is copied at a report or a loss, never for another event.
+// Most reports come without a new id, so the pending ids are compared only if one was written since they were last found to differ.
 pub fn follow(
     setup: panel::Setup,
     shown0: [panel::Slot; panel::RECORDS],
@@ -202,12 +203,13 @@ pub fn follow(
     current0: panel::SlotNumber,
     bytes: &[u8],
 ) -> RunAnswer
-    requires { ⌜ (setupGood base (setupOf setup) ≡ true) × (current0 .0 < 16) ⌝ }
+    requires { ⌜ (setupGood base (setupOf setup) ≡ true) × (current0 .0 < setup .n) × sameFrom (setup .n) pending0 unusedAll ⌝ }
     ensures { λ r. ⌜ r ≡ answered setup (onward (panelSeen setup) (readerOf shown0 pending0 (current0 .0) following) nothing (eventsOf (now (bytes .entry)))) ⌝ }
 {
     let count = bytes.len() / 8;
     let mut shown = shown0;
     let mut pending = pending0;
+    let mut written = true;
     let mut current = current0.0;
     let mut frames: usize = 0;
     let mut skipped: usize = 0;
@@ -234,22 +236,24 @@ pub fn follow(
                 );
             }
             acts::Act::Report => {
-                if panel::ids_differ(pending) {
-                    shown = pending;
-                    frames += 1;
-                } else {
-                    return lost(
-                        setup,
-                        shown,
-                        panel::SlotNumber(current),
-                        Mode::Stale,
-                        bytes,
-                        k,
-                        frames,
-                        skipped,
-                        1,
-                    );
+                if written {
+                    if !panel::ids_differ(setup.n, pending) {
+                        return lost(
+                            setup,
+                            shown,
+                            panel::SlotNumber(current),
+                            Mode::Stale,
+                            bytes,
+                            k,
+                            frames,
+                            skipped,
+                            1,
+                        );
+                    }
+                    written = false;
                 }
+                shown = pending;
+                frames += 1;
             }
             acts::Act::Loss => {
                 return lost(
@@ -269,6 +273,7 @@ pub fn follow(
             }
             acts::Act::Id(v) => {
                 let old = pending[current];
+                written = true;
                 pending[current] = panel::Slot {
                     id: v,
                     x: old.x,

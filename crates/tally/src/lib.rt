@@ -1,11 +1,12 @@
 // What a frame changes: the changed slots as one number, bit s for slot s, and how many numbers and slots. The writer stands on it.
 ghost use mathlib.Core.Path.{_≡_};
-ghost use Prim.Native.Nat.{_*_, _-_, _^_, _<_, _≤_};
+ghost use Prim.Native.Nat.{_-_, _^_, _<_, _≤_};
+ghost use lib.Bits.{bitAnd};
 ghost use lib.Count.{ones as onesOf};
 ghost use lib.Dec.{eqb};
 ghost use Rattle.model.specs.Numbers.{eqZ};
-ghost use Rattle.model.specs.Sending.{oneUnless, sameSlot, changedIn, changedNumbers, changedMask};
-ghost use Rattle.panel.specs.Seen.{slotOf, tableOf};
+ghost use Rattle.model.specs.Sending.{oneUnless, changedIn, changedNumbers, changedMask};
+ghost use Rattle.panel.specs.Seen.{slotOf, tableOf, sameFrom};
 use panel::RECORDS;
 use panel::Slot;
 use panel::SlotNumber;
@@ -50,13 +51,14 @@ pub struct Tally {
     pub numbers: u32,
 }
 
-// The changed slots and numbers. From the last slot down, so that a slot's bit is shifted to its place by those before it.
-pub fn count_changes(old: [Slot; RECORDS], new: [Slot; RECORDS]) -> Tally
+// The changed slots and numbers of a table whose records from n up stay. From the last slot down, so that a slot's bit is shifted to its place by those before it.
+pub fn count_changes(n: usize, old: [Slot; RECORDS], new: [Slot; RECORDS]) -> Tally
+    requires { ⌜ (n ≤ 16) × sameFrom n old new ⌝ }
     ensures { λ r. ⌜ (r .mask ≡ changedMask (tableOf old) (tableOf new)) × (r .numbers ≡ changedNumbers (tableOf old) (tableOf new)) × (r .numbers ≤ 64) ⌝ }
 {
     let mut mask: u16 = 0;
     let mut numbers: u32 = 0;
-    let mut s = RECORDS;
+    let mut s = n;
     while 0 < s {
         s -= 1;
         let d = differ(old[s], new[s]);
@@ -67,13 +69,11 @@ pub fn count_changes(old: [Slot; RECORDS], new: [Slot; RECORDS]) -> Tally
 }
 
 // The changed slots without the current one, which is sent first and not opened.
-pub fn without_current(mask: u16, current: SlotNumber, old: Slot, new: Slot) -> u16
-    requires { ⌜ (current .0 < 16) × (oneUnless (sameSlot (slotOf old) (slotOf new)) * 2 ^ current .0 ≤ mask) ⌝ }
-    ensures { λ r. ⌜ r ≡ mask - oneUnless (sameSlot (slotOf old) (slotOf new)) * 2 ^ current .0 ⌝ }
+pub fn without_current(mask: u16, current: SlotNumber) -> u16
+    requires { ⌜ current .0 < 16 ⌝ }
+    ensures { λ r. ⌜ r ≡ mask - bitAnd mask (2 ^ current .0) ⌝ }
 {
-    let d = differ(old, new);
-    let bit = some(d);
-    mask - (bit << current.0)
+    mask - (mask & (1u16 << current.0))
 }
 
 // How many slots a changed-slot number names.

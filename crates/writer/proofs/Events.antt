@@ -1,40 +1,22 @@
--- What is sent, by the changed-slot number and as the model orders it, and the tally's parts of the event count. Cited by the proofs of `measure` and `accept`. Assumes nothing.
+-- What is sent, by the changed-slot number and as the model orders it. Cited by Accepted. Assumes nothing.
 use mathlib.Core.Path.{_≡_, refl, sym, ap, ap₂, _∙_}
 use mathlib.Core.List.{List, [], _∷_, _++_}
-use Prim.Native.Nat.{ℕ, _+_, _*_, _-_, _^_, _<_, _≤_}
+use Prim.Native.Nat.{ℕ, _+_, _<_}
 use native.Mathlib.Omega.{arith}
 use lib.ListN.{length, getD, length-map}
 use Rattle.model.specs.Records.{bytesOf}
-use Rattle.model.specs.Sending.{Sent, sendSlot, sendReport, changes, body, closed, sending, lastOpened, currentAfter, eventsSent, oneUnless, sameSlot, changedMask, fewest}
+use Rattle.model.specs.Sending.{Sent, sendSlot, sendReport, changes, body, closed, sending, lastOpened, currentAfter, eventsSent, fewest}
 use Rattle.model.specs.Order.{ofMask, othersMask}
 use Rattle.model.proofs.Count.{sending-count}
 use Rattle.model.proofs.Follow.{last-append}
-use Rattle.model.proofs.Order.{Opens, mask-others, mask-split}
+use Rattle.model.proofs.Order.{Opens, mask-others}
 use Rattle.panel.specs.declared.Slot.{Slot}
 use Rattle.panel.specs.declared.Setup.{Setup}
-use Rattle.panel.specs.Seen.{slotOf, tableOf, panelSeen, blank}
+use Rattle.panel.specs.Seen.{slotOf, tableOf, panelSeen}
 use Rattle.panel.proofs.Tables.{slot-at}
 use Rattle.send.specs.Sent.{bytesSent, openedAt, sentBy}
 
 module _ (old new : List Slot) (lo : length old ≡ 16) (ln : length new ≡ 16) (c : ℕ) (h : c < 16) where
-  -- ---- the current slot's bit
-
-  abbrev bit : ℕ
-  bit = oneUnless (sameSlot (slotOf (getD old c blank)) (slotOf (getD new c blank)))
-
-  split : changedMask (tableOf old) (tableOf new) ≡ othersMask c (tableOf old) (tableOf new) + bit * 2 ^ c
-  split =
-      mask-split c (tableOf old) (tableOf new) (simp length-map (omega arith)) (simp length-map (omega arith))
-      ∙ ap₂ (λ o v. othersMask c (tableOf old) (tableOf new) + oneUnless (sameSlot o v) * 2 ^ c) (slot-at old c (omega arith)) (slot-at new c (omega arith))
-
-  pub bit-in : (mask : ℕ) → mask ≡ changedMask (tableOf old) (tableOf new) → bit * 2 ^ c ≤ mask
-  bit-in mask e = omega (arith, split)
-
-  pub bit-out : (mask others : ℕ) → mask ≡ changedMask (tableOf old) (tableOf new) → others ≡ mask - bit * 2 ^ c → others ≡ othersMask c (tableOf old) (tableOf new)
-  bit-out mask others e f = omega (arith, split)
-
-  -- ---- what is sent
-
   opens : Opens 0 (tableOf old) (tableOf new) (openedAt old new)
   opens j g =
       let z : 0 + j ≡ j = omega arith in

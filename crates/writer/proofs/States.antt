@@ -11,8 +11,9 @@ use Rattle.model.specs.Table.{idsDiffer, goodRecords}
 use Rattle.model.specs.States.{writerGood}
 use Rattle.model.proofs.Bools.{is-true}
 use Rattle.model.proofs.Calls.{WriterFacts, writer-state}
-use Rattle.panel.specs.Seen.{slotOf, tableOf, setupOf, fieldsOf}
+use Rattle.panel.specs.Seen.{slotOf, tableOf, setupOf, fieldsOf, unusedAll, sameFrom}
 use Rattle.panel.proofs.Setups.{holds, small}
+use Rattle.panel.proofs.Tables.{table-rest}
 use Rattle.writer.specs.declared.WriterState.{WriterState}
 use Rattle.writer.specs.Seen.{seen}
 
@@ -41,6 +42,9 @@ module _ (s : WriterState) (g : writerGood base (seen s) ≡ true) where
 
   pub good-current : s .current .0 < 16
   good-current = omega (arith, facts .writer .below, good-size)
+
+  pub good-rest : sameFrom (s .setup .n) (s .table) unusedAll
+  good-rest = table-rest (s .setup) (s .table) (facts .writer .good)
 
   pub good-counter : s .counter < 65536
   good-counter = facts .writer .counts

@@ -4,12 +4,12 @@ ghost use mathlib.Core.Bool.{true, cond};
 ghost use Prim.Native.Nat.{_+_, _*_, _≤_};
 ghost use lib.Count.{ones};
 ghost use lib.Dec.{eqb};
-ghost use lib.ListN.{length, getD};
+ghost use lib.ListN.{length};
 ghost use Rattle.model.specs.Panel.{base};
 ghost use Rattle.model.specs.Frame.{valuesGood};
 ghost use Rattle.model.specs.States.{writerGood};
 ghost use Rattle.model.specs.Calls.{freshWriterCall, writeCall, writeBuffer};
-ghost use Rattle.panel.specs.Seen.{setupOf, panelSeen, blank};
+ghost use Rattle.panel.specs.Seen.{setupOf, panelSeen};
 ghost use Rattle.writer.specs.Seen.{seen, freshFrom, writtenFrom, notWrittenBy, writtenBy};
 use panel::RECORDS;
 use panel::Setup;
@@ -81,7 +81,7 @@ fn state_ok(setup: Setup, table: [Slot; RECORDS], current: SlotNumber, counter: 
     if !panel::table_ok(setup, table) {
         return false;
     }
-    if !panel::ids_differ(table) {
+    if !panel::ids_differ(setup.n, table) {
         return false;
     }
     if setup.n <= current.0 {
@@ -138,26 +138,18 @@ fn taken(
     }
 }
 
-// A good frame of a good state: its events, unless there is no room for them. `old` is the state's table and `was` its current slot, which the caller has at hand.
-fn accept(
-    state: WriterState,
-    old: [Slot; RECORDS],
-    was: Slot,
-    frame: &[i32],
-    buf: &mut [u8],
-    at: usize,
-) -> Written
-    requires { ⌜ (writerGood base (seen state) ≡ true) × (length (now frame) ≡ 4 * state .setup .n) × (valuesGood (panelSeen (state .setup)) (now frame) ≡ true) × (old ≡ state .table) × (was ≡ getD (state .table) (state .current .0) blank) ⌝ }
+// A good frame of a good state: its events, unless there is no room for them.
+fn accept(state: WriterState, frame: &[i32], buf: &mut [u8], at: usize) -> Written
+    requires { ⌜ (writerGood base (seen state) ≡ true) × (length (now frame) ≡ 4 * state .setup .n) × (valuesGood (panelSeen (state .setup)) (now frame) ≡ true) ⌝ }
     ensures { λ r. ⌜ (r ≡ writtenFrom (writeCall base (seen state) (now (frame .entry)) at (length (now (buf .entry))))) × (now (buf .exit) ≡ writeBuffer base (seen state) (now (frame .entry)) at (now (buf .entry))) ⌝ }
 {
     let setup = state.setup;
+    let old = state.table;
     let current = state.current;
     let p = plan::plan_frame(setup.n, old, state.counter, frame);
     let new = p.table;
-    let m = tally::count_changes(old, new);
-    let c = current.0;
-    let is = new[c];
-    let others = tally::without_current(m.mask, current, was, is);
+    let m = tally::count_changes(setup.n, old, new);
+    let others = tally::without_current(m.mask, current);
     let count = event_count(m.numbers, others);
     let need = 8 * count;
     if buf.len() < at {
@@ -189,7 +181,5 @@ pub fn write(state: WriterState, frame: &[i32], buf: &mut [u8], at: usize) -> Wr
     if !frame::values_ok(setup, frame) {
         return refused(Verdict::Value, state, 0);
     }
-    let c = current.0;
-    let was = table[c];
-    accept(state, table, was, frame, buf, at)
+    accept(state, frame, buf, at)
 }

@@ -2,10 +2,11 @@
 use borrow.Author.Needs.{needs}
 use mathlib.Core.Path.{_≡_, sym, ap, _∙_}
 use borrow.Author.Tests.{not-true, not-false, eq-eqb}
+use lib.ListN.{drop}
 use Rattle.model.specs.Table.{goodTable, idsDiffer}
 use Rattle.model.specs.Calls.{imageTable}
 use Rattle.panel.specs.Seen.{panelSeen, tableOf}
-use Rattle.image.proofs.Images.{other-length, image-records, ids-held}
+use Rattle.image.proofs.Images.{filled-rest, other-length, image-records, ids-held}
 use Rattle.image.proofs.image_ok.Statement.{statement}
 use Rattle.image.proofs.image_ok.Tie as tie
 
@@ -33,7 +34,10 @@ image-table-requires : tie.Need-image-table-requires
 image-table-requires c κs = search needs
 
 ids-differ-requires : tie.Need-ids-differ-requires
-ids-differ-requires c κs = search needs
+ids-differ-requires c κs =
+    let s = c .before .before .before .before .before in
+    let u = s .args .setup in
+    (s .pre, ap (λ t. tableOf (drop (u .n) t)) (c .image-table .ensures) ∙ filled-rest u (s .args .image .now) (s .pre))
 
 returns-3 : tie.Need-returns-3
 returns-3 c =

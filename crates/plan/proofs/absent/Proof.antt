@@ -1,12 +1,12 @@
--- `plan::absent` tells whether a number is none of the taken ids. The loop has passed j others. Assumes nothing.
+-- `plan::absent` tells whether a number is none of the taken ids. The loop has compared j of them; `found`: it was one of those. Assumes nothing.
 use borrow.Author.Needs.{needs}
-use mathlib.Core.Path.{_≡_, sym, ap, _∙_}
-use mathlib.Core.Bool.{not, _&&_}
+use mathlib.Core.Path.{_≡_, refl, sym, ap, _∙_}
+use mathlib.Core.Bool.{Bool, true, false, not, _&&_, _||_, and-true}
 use Prim.Native.Nat.{_≤_, _+_, _-_}
 use lib.IntN.{pos}
 use lib.ListN.{length, drop, getD}
 use mir.Syntax.{w32}
-use mir.Val.{SFits, toZ}
+use mir.Val.{SFits, toZ, ofZ}
 use mir.ValLaws.{toZ-ofZ}
 use Rattle.model.specs.Numbers.{eqZ}
 use Rattle.model.specs.Table.{unheld}
@@ -15,28 +15,17 @@ use Rattle.plan.proofs.absent.Statement.{statement}
 use Rattle.plan.proofs.absent.Tie as tie
 
 abbrev Inv-loop : tie.InvT-loop
-Inv-loop taken v j₀ j = (j ≤ length taken) × (unheld (toZ w32 v) taken ≡ unheld (toZ w32 v) (drop j taken))
+Inv-loop taken v found₀ j₀ found j = (j ≤ length taken) × (unheld (toZ w32 v) taken ≡ (not found && unheld (toZ w32 v) (drop j taken)))
 
 abbrev μ-loop : tie.MeasureT-loop
-μ-loop taken v j₀ j = length taken - j
+μ-loop taken v found₀ j₀ found j = length taken - j
 
--- what a turn's test says of all the ids
-step : (c : tie.After-same Inv-loop μ-loop)
-    → (let a = c .before .before .before .before .before .args in let j = c .before .before .before .loop .j in
-    unheld (a .v .0) (a .taken .now) ≡ (not (c .same .result) && unheld (a .v .0) (drop (j + 1) (a .taken .now))))
-step c =
-    let a = c .before .before .before .before .before .args in
-    let l = c .before .before .before .loop in
-    let v = a .v .0 in
-    let q = getD (a .taken .now) (l .j) (pos 0) in
-    let f : SFits w32 q = search needs in
-    let g : SFits w32 v = search needs in
-    let inv = rw (toZ-ofZ w32 v g) at (l .inv .1) in
-    let same : c .same .result ≡ eqZ v q = rw (toZ-ofZ w32 v g, toZ-ofZ w32 q f) at (c .same .ensures) in
-    inv ∙ unheld-step (a .taken .now) (l .j) (pos 0) v (search needs) ∙ ap (λ t. not t && unheld v (drop (l .j + 1) (a .taken .now))) (sym same)
+neither : (a b c : Bool) → (not a && (not b && c)) ≡ (not (a || b) && c)
+neither true b c = refl
+neither false b c = refl
 
 loop-holds : tie.Need-loop-holds Inv-loop μ-loop
-loop-holds c = search needs
+loop-holds c = (search needs, refl)
 
 mul-same : tie.Need-mul-same Inv-loop μ-loop
 mul-same c = search needs
@@ -47,9 +36,6 @@ shared-slice-copy-out-same c = search needs
 same-requires : tie.Need-same-requires Inv-loop μ-loop
 same-requires c κs = search needs
 
-returns : tie.Need-returns Inv-loop μ-loop
-returns c = sym (rw (c .if1 .taken) at (step (c .before)))
-
 add-j : tie.Need-add-j Inv-loop μ-loop
 add-j c = search needs
 
@@ -58,17 +44,26 @@ loop-less c = search needs
 
 loop-again : tie.Need-loop-again Inv-loop μ-loop
 loop-again c =
-    let v = c .before .before .before .before .before .before .args .v .0 in
-    let g : SFits w32 v = search needs in
-    (search needs, rw (toZ-ofZ w32 v g) (rw (c .if1 .left) at (step (c .before))))
+    let a = c .before .before .before .before .before .args in
+    let l = c .before .before .before .loop in
+    let ids = a .taken .now in
+    let z = toZ w32 (ofZ w32 (a .v .0)) in
+    let w = getD ids (l .j) (pos 0) in
+    let f : SFits w32 w = search needs in
+    let same : c .same .result ≡ eqZ z w = c .same .ensures ∙ ap (eqZ z) (toZ-ofZ w32 w f) in
+    let rest = unheld z (drop (l .j + 1) ids) in
+    let turn = unheld-step ids (l .j) (pos 0) z (search needs) ∙ ap (λ b. not b && rest) (sym same) in
+    (search needs, l .inv .1 ∙ ap (λ b. not (l .found) && b) turn ∙ neither (l .found) (c .same .result) rest)
 
-returns-2 : tie.Need-returns-2 Inv-loop μ-loop
-returns-2 c =
+returns : tie.Need-returns Inv-loop μ-loop
+returns c =
     let a = c .before .before .before .args in
-    let v = a .v .0 in
-    let g : SFits w32 v = search needs in
-    let e = rw (toZ-ofZ w32 v g) at (c .before .loop .inv .1) in
-    sym (e ∙ unheld-end (a .taken .now) (c .before .loop .j) (pos 0) v (search needs))
+    let l = c .before .loop in
+    let ids = a .taken .now in
+    let z = toZ w32 (ofZ w32 (a .v .0)) in
+    let g : SFits w32 (a .v .0) = search needs in
+    let all = l .inv .1 ∙ ap (λ b. not (l .found) && b) (unheld-end ids (l .j) (pos 0) z (search needs)) ∙ and-true (not (l .found)) in
+    sym (rw (toZ-ofZ w32 (a .v .0) g) at all)
 
 pub absent-spec : {M : Type 1} → statement M
 absent-spec =
@@ -80,8 +75,7 @@ absent-spec =
     mul-same
     shared-slice-copy-out-same
     same-requires
-    returns
     add-j
     loop-less
     loop-again
-    returns-2)
+    returns)

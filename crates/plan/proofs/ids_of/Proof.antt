@@ -1,27 +1,27 @@
--- `plan::ids_of` has the ids of a table in its first places. The loop has copied i of them. Assumes nothing.
+-- `plan::ids_of` has the ids of a table's first slots in its first places. The loop has copied i of them. Assumes nothing.
 use borrow.Author.Needs.{needs}
-use mathlib.Core.Path.{_≡_, sym, ap₂, _∙_}
+use mathlib.Core.Path.{_≡_, sym, ap, _∙_}
 use mathlib.Core.List.{List, _∷_, [], _++_}
 use Prim.Native.Nat.{_≤_, _<_, _-_}
 use native.Mathlib.Numerals.{add-one}
 use native.Mathlib.Omega.{arith}
-use lib.IntN.{ℤ, pos}
-use lib.ListN.{length, take, getD, length-map, length-set}
-use lib.Seq.{take-suc, take-suc-set, take-all}
+use lib.IntN.{ℤ}
+use lib.ListN.{length, take, getD, length-set}
+use lib.Seq.{take-suc-set}
 use mir.Syntax.{w32}
 use mir.Val.{SFits}
 use mir.ValLaws.{toZ-ofZ}
 use Rattle.model.specs.Table.{ids}
 use Rattle.panel.specs.Seen.{tableOf, blank}
-use Rattle.panel.proofs.Tables.{id-at}
+use Rattle.panel.proofs.Apart.{more-ids}
 use Rattle.plan.proofs.ids_of.Statement.{statement}
 use Rattle.plan.proofs.ids_of.Tie as tie
 
 abbrev Inv-loop : tie.InvT-loop
-Inv-loop t l₀ i₀ l i = (i ≤ 16) × (length l ≡ 32) × (take i l ≡ take i (ids (tableOf t)))
+Inv-loop n t l₀ i₀ l i = (i ≤ n) × (length l ≡ 32) × (take i l ≡ ids (tableOf (take i t)))
 
 abbrev μ-loop : tie.MeasureT-loop
-μ-loop t l₀ i₀ l i = 16 - i
+μ-loop n t l₀ i₀ l i = n - i
 
 loop-holds : tie.Need-loop-holds Inv-loop μ-loop
 loop-holds c = search needs
@@ -46,27 +46,21 @@ loop-less c = search needs
 
 loop-again : tie.Need-loop-again Inv-loop μ-loop
 loop-again c =
-    let t = c .before .before .before .before .before .args .t1 in
+    let s = c .before .before .before .before .before in
+    let t = s .args .t2 in
     let l = c .before .before .before .before .loop in
     let v = getD t (l .i) blank .id .0 in
     let f : SFits w32 v = search needs in
     let lt : length t ≡ 16 = search needs in
-    let inside : l .i < length (ids (tableOf t)) = simp (length-map, lt) (search needs) in
     let room : l .i < length (l .l) = omega (arith, l .inv .1) in
-    rw (toZ-ofZ w32 v f) (
-      search needs,
-      length-set (l .l) (l .i) v ∙ l .inv .1,
-      rw add-one (take-suc-set (l .l) (l .i) v room ∙ ap₂ (λ (a : List ℤ) (b : ℤ). a ++ b ∷ []) (l .inv .2) (sym (id-at t (l .i))) ∙ sym (take-suc (ids (tableOf t)) (l .i) (pos 0) inside)),
-    )
+    let more = take-suc-set (l .l) (l .i) v room ∙ ap (λ (a : List ℤ). a ++ v ∷ []) (l .inv .2) ∙ sym (more-ids t (l .i) (omega arith)) in
+    rw (toZ-ofZ w32 v f) (search needs, length-set (l .l) (l .i) v ∙ l .inv .1, rw add-one more)
 
 returns : tie.Need-returns Inv-loop μ-loop
 returns c =
-    let t = c .before .before .args .t1 in
     let l = c .before .loop in
-    let e : l .i ≡ 16 = omega arith in
-    let lt : length t ≡ 16 = search needs in
-    let few : length (ids (tableOf t)) ≤ 16 = simp (length-map, lt) (omega arith) in
-    rw e at (l .inv .2) ∙ take-all 16 (ids (tableOf t)) few
+    let e : l .i ≡ c .before .before .args .n = omega arith in
+    rw e at (l .inv .2)
 
 pub ids-of-spec : {M : Type 1} → statement M
 ids-of-spec =

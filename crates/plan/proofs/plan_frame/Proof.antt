@@ -13,13 +13,15 @@ use mir.Syntax.{w32}
 use mir.Val.{SFits}
 use mir.ValLaws.{toZ-ofZ}
 use Rattle.model.specs.Numbers.{eqZ}
+use Rattle.model.specs.Table.{ids, unheld}
 use Rattle.model.specs.Frame.{Fate, fate, next, freeId, rowsFrom, slotAfter, takenAfter, counterAfter, tableFrom, counterFrom, newTable, newCounter}
 use Rattle.model.proofs.Bools.{and-left, and-right}
 use Rattle.model.proofs.Rows.{rows-next, rows-none, row-of-four}
-use Rattle.model.proofs.Tries.{Same, same-last}
+use Rattle.model.proofs.Tries.{Same, same-last, table-same, counter-same}
 use Rattle.panel.specs.declared.Slot.{Slot}
 use Rattle.panel.specs.declared.TrackingId.{TrackingId}
 use Rattle.panel.specs.Seen.{slotOf, tableOf, blank}
+use Rattle.panel.proofs.Apart.{front-holds}
 use Rattle.plan.specs.Row.{begun, held, stayed, plainRow, plainRows}
 use Rattle.plan.proofs.Turn.{begun-slot, stayed-slot, begun-taken, begun-counter, stayed-taken, stayed-counter, table-turn, counter-turn}
 use Rattle.plan.proofs.plan_frame.Statement.{statement}
@@ -112,6 +114,8 @@ loop-holds c =
     let lt : length (a .old) ≡ 16 = search needs in
     let ll : length (c .ids-of .result) ≡ 32 = search needs in
     let rows = rowsFrom 4 (a .n) (a .frame .now) 0 in
+    let l = take (a .n) (c .ids-of .result) in
+    let same : Same (ids (tableOf (a .old))) l = λ k. front-holds (a .old) (a .n) (c .before .pre .4) (pos k) refl ∙ ap (unheld (pos k)) (sym (c .ids-of .ensures)) in
     rw z (
       search needs,
       search needs,
@@ -119,8 +123,8 @@ loop-holds c =
       lt,
       ll,
       c .before .pre .3,
-      ap (λ l. tableFrom l (a .counter) rows (tableOf (a .old))) (sym (c .ids-of .ensures)),
-      ap (λ l. counterFrom l (a .counter) rows (tableOf (a .old))) (sym (c .ids-of .ensures)),
+      table-same (ids (tableOf (a .old))) l (a .counter) rows (tableOf (a .old)) same,
+      counter-same (ids (tableOf (a .old))) l (a .counter) rows (tableOf (a .old)) same,
     )
 
 mul-i : tie.Need-mul-i Inv-loop μ-loop

@@ -2,8 +2,7 @@
 use borrow.Author.Needs.{needs}
 use mathlib.Core.Path.{_∙_}
 use Rattle.runs.specs.declared.Mode.the-variants.{Dropped, Stale}
-use native.Mathlib.Omega.{arith}
-use Rattle.reader.proofs.States.{good-setup, good-current, good-small, follow-run, lost-run}
+use Rattle.reader.proofs.States.{good-setup, good-current, good-rest, follow-run, lost-run}
 use Rattle.reader.proofs.run_accepted.Statement.{statement}
 use Rattle.reader.proofs.run_accepted.Tie as tie
 
@@ -14,7 +13,7 @@ follow-requires : tie.Need-follow-requires
 follow-requires c κs =
     let s = c .before .before .before .before .before .before .before .args .state in
     let g = c .before .before .before .before .before .before .before .pre in
-    (good-setup s g, omega (arith, good-current s g, good-small s g .n))
+    (good-setup s g, good-current s g, good-rest s g)
 
 enum-told-2 : tie.Need-enum-told-2
 enum-told-2 c = search needs

@@ -4,10 +4,24 @@ use borrow.Author.Tests.{not-true, not-false, le-ltb, lt-ltb}
 use mathlib.Core.Path.{_≡_, sym, _∙_}
 use lib.ListN.{length}
 use Rattle.model.specs.Table.{goodTable, idsDiffer}
-use Rattle.panel.specs.Seen.{panelSeen, tableOf}
-use Rattle.panel.proofs.Tables.{unmapped, table-good}
+use Rattle.panel.specs.Seen.{panelSeen, tableOf, unusedAll, sameFrom}
+use Rattle.panel.proofs.Tables.{unmapped, table-good, good-rest}
 use Rattle.reader.proofs.tables_ok.Statement.{statement}
 use Rattle.reader.proofs.tables_ok.Tie as tie
+
+shown-rest : (c : tie.After-table-ok2) → (let s = c .before .before .before .before .before .before .args .s in sameFrom (s .setup .n) (s .shown) unusedAll)
+shown-rest c =
+    let t = c .before .before .before in
+    let s = t .before .before .before .args .s in
+    let len : length (s .shown) ≡ 16 = search (needs, unmapped) in
+    good-rest (s .setup) (s .shown) len (sym (t .table-ok .ensures) ∙ not-false (t .table-ok .result) (c .before .before .if1 .left))
+
+pending-rest : (c : tie.Else2) → (let s = c .before .before .before .before .before .before .before .args .s in sameFrom (s .setup .n) (s .pending) unusedAll)
+pending-rest c =
+    let p = c .before in
+    let s = p .before .before .before .before .before .before .args .s in
+    let len : length (s .pending) ≡ 16 = search (needs, unmapped) in
+    good-rest (s .setup) (s .pending) len (sym (p .table-ok2 .ensures) ∙ not-false (p .table-ok2 .result) (c .if2 .left))
 
 shown-is : (c : tie.After-table-ok) → c .table-ok .result ≡ goodTable (panelSeen (c .before .before .before .args .s .setup)) (tableOf (c .before .before .before .args .s .shown))
 shown-is c =
@@ -39,7 +53,7 @@ returns-2 c =
     rw (← shown-is t, not-false (t .table-ok .result) (c .before .before .before .if1 .left), ← pending-is (c .before), not-true (c .before .table-ok2 .result) (c .if2 .taken))
 
 ids-differ-requires : tie.Need-ids-differ-requires
-ids-differ-requires c κs = search needs
+ids-differ-requires c κs = (c .before .before .before .before .before .before .before .pre, shown-rest (c .before))
 
 returns-3 : tie.Need-returns-3
 returns-3 c =
@@ -56,7 +70,9 @@ returns-4 c =
     rw (← shown-is t, not-false (t .table-ok .result) (p .before .before .if1 .left), ← pending-is p, not-false (p .table-ok2 .result) (i .before .if2 .left), ← ids-are i, not-false (i .ids-differ .result) (c .before .before .before .before .if3 .left), le-ltb (s .current .0) (s .setup .n) (c .if4 .taken))
 
 settled-ok-requires : tie.Need-settled-ok-requires
-settled-ok-requires c κs = search needs
+settled-ok-requires c κs =
+    let e = c .before .before .before .before .before .before in
+    (e .before .before .before .before .before .before .before .pre, shown-rest (e .before) ∙ sym (pending-rest e))
 
 returns-5 : tie.Need-returns-5
 returns-5 c =

@@ -1,37 +1,83 @@
--- `reader::follow`: a run that begins following. The loop has read k records; what is left of the run is the whole run's answer. Assumes nothing.
+-- `runs::follow`: a run that begins following. The loop has read k records; what is left of the run is the whole run's answer. Assumes nothing.
 use borrow.Author.Needs.{needs}
+use borrow.Author.Tests.{not-true, not-false}
 use mathlib.Core.Path.{_≡_, refl, sym, ap, _∙_}
-use Prim.Native.Nat.{_+_, _-_, _*_, _/_, _≤_, _<_}
+use mathlib.Core.Bool.{true}
+use mathlib.Core.List.{List}
+use mathlib.Core.Logic.{⊎-elim}
+use Prim.Native.Nat.{ℕ, _+_, _-_, _*_, _/_, _≤_, _<_}
 use native.Mathlib.Omega.{arith}
-use lib.IntN.{pos}
-use lib.ListN.{length, getD, length-set}
-use Rattle.model.specs.Events.{classify}
+use lib.IntN.{ℤ, pos}
+use lib.ListN.{length, getD, set}
+use Rattle.model.specs.Table.{idsDiffer}
+use Rattle.model.specs.Events.{classify, number}
 use Rattle.model.specs.Reader.{following, nothing}
 use Rattle.model.specs.Records.{eventAt, eventsFrom}
-use Rattle.panel.specs.Seen.{panelSeen, blank}
+use Rattle.panel.specs.declared.Setup.{Setup}
+use Rattle.panel.specs.declared.Slot.{Slot}
+use Rattle.panel.specs.Seen.{slotOf, tableOf, panelSeen, blank}
 use Rattle.panel.proofs.Setups.{small}
 use Rattle.acts.specs.Seen.{actOf}
 use Rattle.runs.specs.Seen.{readerOf}
 use Rattle.runs.specs.Runs.{onward, answered}
+use Rattle.runs.proofs.Turns.{Pending, uncompared, compared, with-id, with-number}
 use Rattle.runs.proofs.Turns.{sofar, selected, skips, selects, shows, repeats, drops, spoils, stores, ends}
 use Rattle.runs.proofs.follow.Statement.{statement}
 use Rattle.runs.proofs.follow.Tie as tie
 
 abbrev Inv-loop : tie.InvT-loop
-Inv-loop setup bytes count shown₀ pending₀ current₀ frames₀ skipped₀ k₀ shown pending current frames skipped k = (k ≤ count) × (current < 16) × (frames + skipped ≤ k) × (length pending ≡ 16) × (onward (panelSeen setup) (readerOf shown₀ pending₀ current₀ following) nothing (eventsFrom count bytes 0) ≡ onward (panelSeen setup) (readerOf shown pending current following) (sofar frames skipped) (eventsFrom (count - k) bytes (8 * k)))
+Inv-loop setup bytes count shown₀ pending₀ written₀ current₀ frames₀ skipped₀ k₀ shown pending written current frames skipped k =
+    (k ≤ count) × (current < setup .n) × (frames + skipped ≤ k) × Pending (setup .n) written pending
+    × (onward (panelSeen setup) (readerOf shown₀ pending₀ current₀ following) nothing (eventsFrom count bytes 0)
+    ≡ onward (panelSeen setup) (readerOf shown pending current following) (sofar frames skipped) (eventsFrom (count - k) bytes (8 * k)))
+    × (setup .n ≤ 16)
 
 abbrev μ-loop : tie.MeasureT-loop
-μ-loop setup bytes count shown₀ pending₀ current₀ frames₀ skipped₀ k₀ shown pending current frames skipped k = count - k
+μ-loop setup bytes count shown₀ pending₀ written₀ current₀ frames₀ skipped₀ k₀ shown pending written current frames skipped k = count - k
 
--- what the record asks
-asked : (c : tie.After-act-of Inv-loop μ-loop) → classify (panelSeen (c .before .before .before .before .before .args .setup)) (eventAt (c .before .before .before .before .before .args .bytes .now) (8 * c .before .before .before .loop .k)) ≡ actOf (c .act-of .result)
-asked c = sym (c .act-of .ensures ∙ ap (classify (panelSeen (c .before .before .before .before .before .args .setup))) (c .before .record-at .ensures))
+-- ---- a turn, where its act is known
+
+abbrev top : tie.After-act-of Inv-loop μ-loop → tie.At-loop Inv-loop μ-loop
+top p = p .before .before .before
+
+abbrev setup : tie.After-act-of Inv-loop μ-loop → Setup
+setup p = top p .before .before .args .setup
+
+abbrev bytes : tie.After-act-of Inv-loop μ-loop → List ℕ
+bytes p = top p .before .before .args .bytes .now
+
+abbrev count : tie.After-act-of Inv-loop μ-loop → ℕ
+count p = length (bytes p) / 8
+
+inside : (p : tie.After-act-of Inv-loop μ-loop) → top p .loop .k < count p
+inside p = search needs
+
+held : (p : tie.After-act-of Inv-loop μ-loop) → top p .loop .current < length (top p .loop .pending)
+held p = omega (arith, top p .loop .inv)
+
+asked : (p : tie.After-act-of Inv-loop μ-loop) → classify (panelSeen (setup p)) (eventAt (bytes p) (8 * top p .loop .k)) ≡ actOf (p .act-of .result)
+asked p = sym (p .act-of .ensures ∙ ap (classify (panelSeen (setup p))) (p .before .record-at .ensures))
+
+-- What is left where the act put x into the current slot.
+stored : (p : tie.After-act-of Inv-loop μ-loop) (i : ℕ) (v : ℤ) (x : Slot)
+    → (let l = top p .loop in let a = top p .before .before .args in classify (panelSeen (setup p)) (eventAt (bytes p) (8 * l .k)) ≡ number i v
+    → slotOf x ≡ set (slotOf (getD (l .pending) (l .current) blank)) i v
+    → onward (panelSeen (setup p)) (readerOf (a .shown0) (a .pending0) (a .current0 .0) following) nothing (eventsFrom (count p) (bytes p) 0)
+    ≡ onward (panelSeen (setup p)) (readerOf (l .shown) (set (l .pending) (l .current) x) (l .current) following) (sofar (l .frames) (l .skipped))
+    (eventsFrom (count p - (l .k + 1)) (bytes p) (8 * (l .k + 1))))
+stored p i v x e q =
+    let l = top p .loop in
+    l .inv .4 ∙ stores (setup p) (bytes p) (count p) (l .k) (inside p) (l .shown) (l .pending) (l .current) (l .frames) (l .skipped) i v x e (held p) q
+
+-- ---- the needs
 
 loop-holds : tie.Need-loop-holds Inv-loop μ-loop
 loop-holds c =
     let n = length (c .before .args .bytes .now) / 8 in
     let z : n - 0 ≡ n = omega arith in
-    (search needs, search needs, search needs, search needs, rw z)
+    let s = c .before .args in
+    let table = uncompared (s .setup .n) (s .pending0) (search needs) (c .before .pre .2) in
+    (search needs, c .before .pre .1, search needs, table, rw z, small (s .setup) (c .before .pre .0) .n)
 
 mul-record-at : tie.Need-mul-record-at Inv-loop μ-loop
 mul-record-at c = search needs
@@ -56,10 +102,11 @@ loop-less c = search needs
 
 loop-again : tie.Need-loop-again Inv-loop μ-loop
 loop-again c =
-    let a = c .before .before .before .before .before .before .before .args in
-    let l = c .before .before .before .before .before .loop in
-    let s = a .bytes .now in
-    (search needs, search needs, search needs, l .inv .3, l .inv .4 ∙ skips (a .setup) s (length s / 8) (l .k) (search needs) (l .shown) (l .pending) (l .current) (l .frames) (l .skipped) (asked (c .before .before) ∙ ap actOf (c .enum-told .given .1)))
+    let p = c .before .before in
+    let l = top p .loop in
+    let told = asked p ∙ ap actOf (c .enum-told .given .1) in
+    let left = l .inv .4 ∙ skips (setup p) (bytes p) (count p) (l .k) (inside p) (l .shown) (l .pending) (l .current) (l .frames) (l .skipped) told in
+    (search needs, l .inv .1, search needs, l .inv .3, left, l .inv .5)
 
 enum-told-2 : tie.Need-enum-told-2 Inv-loop μ-loop
 enum-told-2 c = search needs
@@ -69,16 +116,32 @@ lost-requires c κs = search needs
 
 returns : tie.Need-returns Inv-loop μ-loop
 returns c =
-    let a = c .before .before .before .before .before .before .before .before .args in
-    let l = c .before .before .before .before .before .before .loop in
-    let s = a .bytes .now in
-    c .lost .ensures ∙ ap (answered (a .setup)) (sym (l .inv .4 ∙ spoils (a .setup) s (length s / 8) (l .k) (search needs) (l .shown) (l .pending) (l .current) (l .frames) (l .skipped) (asked (c .before .before .before) ∙ ap actOf (c .before .enum-told2 .given .1))))
+    let p = c .before .before .before in
+    let l = top p .loop in
+    let told = asked p ∙ ap actOf (c .before .enum-told2 .given .1) in
+    let left = l .inv .4 ∙ spoils (setup p) (bytes p) (count p) (l .k) (inside p) (l .shown) (l .pending) (l .current) (l .frames) (l .skipped) told in
+    c .lost .ensures ∙ ap (answered (setup p)) (sym left)
 
 enum-told-3 : tie.Need-enum-told-3 Inv-loop μ-loop
 enum-told-3 c = search needs
 
 ids-differ-requires : tie.Need-ids-differ-requires Inv-loop μ-loop
-ids-differ-requires c κs = search needs
+ids-differ-requires c κs =
+    let l = top (c .before .before .before) .loop in
+    (l .inv .5, l .inv .3 .rest)
+
+lost-requires-2 : tie.Need-lost-requires-2 Inv-loop μ-loop
+lost-requires-2 c κs = search needs
+
+returns-2 : tie.Need-returns-2 Inv-loop μ-loop
+returns-2 c =
+    let i = c .before .before in
+    let p = i .before .before .before .before in
+    let equal = sym (i .ids-differ .ensures) ∙ not-true (i .ids-differ .result) (c .before .if2 .taken) in
+    let l = top p .loop in
+    let told = asked p ∙ ap actOf (i .before .before .enum-told3 .given .1) in
+    let left = l .inv .4 ∙ repeats (setup p) (bytes p) (count p) (l .k) (inside p) (l .shown) (l .pending) (l .current) (l .frames) (l .skipped) told equal in
+    c .lost2 .ensures ∙ ap (answered (setup p)) (sym left)
 
 add-frames : tie.Need-add-frames Inv-loop μ-loop
 add-frames c = search needs
@@ -88,20 +151,14 @@ loop-less-2 c = search needs
 
 loop-again-2 : tie.Need-loop-again-2 Inv-loop μ-loop
 loop-again-2 c =
-    let a = c .before .before .before .before .before .before .before .before .before .args in
-    let l = c .before .before .before .before .before .before .before .loop in
-    let s = a .bytes .now in
-    (search needs, search needs, search needs, l .inv .3, l .inv .4 ∙ shows (a .setup) s (length s / 8) (l .k) (search needs) (l .shown) (l .pending) (l .current) (l .frames) (l .skipped) (asked (c .before .before .before .before) ∙ ap actOf (c .before .before .enum-told3 .given .1)) (sym (c .before .ids-differ .ensures) ∙ c .if1 .taken))
-
-lost-requires-2 : tie.Need-lost-requires-2 Inv-loop μ-loop
-lost-requires-2 c κs = search needs
-
-returns-2 : tie.Need-returns-2 Inv-loop μ-loop
-returns-2 c =
-    let a = c .before .before .before .before .before .before .before .before .before .before .args in
-    let l = c .before .before .before .before .before .before .before .before .loop in
-    let s = a .bytes .now in
-    c .lost2 .ensures ∙ ap (answered (a .setup)) (sym (l .inv .4 ∙ repeats (a .setup) s (length s / 8) (l .k) (search needs) (l .shown) (l .pending) (l .current) (l .frames) (l .skipped) (asked (c .before .before .before .before .before) ∙ ap actOf (c .before .before .before .enum-told3 .given .1)) (sym (c .before .before .ids-differ .ensures) ∙ c .before .if1 .left)))
+    let p = c .before .before .before in
+    let l = top p .loop in
+    let differ : idsDiffer (tableOf (l .pending)) ≡ true =
+    ⊎-elim (λ w. sym (w .1 .ensures) ∙ not-false (w .1 .result) (w .2 .left)) (λ w. l .inv .3 .apart (w .0 .left)) (c .if1 .came) in
+    let told = asked p ∙ ap actOf (c .before .enum-told3 .given .1) in
+    let left = l .inv .4 ∙ shows (setup p) (bytes p) (count p) (l .k) (inside p) (l .shown) (l .pending) (l .current) (l .frames) (l .skipped) told differ in
+    let table = compared (setup p .n) (l .written) (c .if1 .written) (l .pending) (l .inv .3) differ in
+    (search needs, l .inv .1, search needs, table, left, l .inv .5)
 
 enum-told-4 : tie.Need-enum-told-4 Inv-loop μ-loop
 enum-told-4 c = search needs
@@ -111,10 +168,11 @@ lost-requires-3 c κs = search needs
 
 returns-3 : tie.Need-returns-3 Inv-loop μ-loop
 returns-3 c =
-    let a = c .before .before .before .before .before .before .before .before .args in
-    let l = c .before .before .before .before .before .before .loop in
-    let s = a .bytes .now in
-    c .lost3 .ensures ∙ ap (answered (a .setup)) (sym (l .inv .4 ∙ drops (a .setup) s (length s / 8) (l .k) (search needs) (l .shown) (l .pending) (l .current) (l .frames) (l .skipped) (asked (c .before .before .before) ∙ ap actOf (c .before .enum-told4 .given .1))))
+    let p = c .before .before .before in
+    let l = top p .loop in
+    let told = asked p ∙ ap actOf (c .before .enum-told4 .given .1) in
+    let left = l .inv .4 ∙ drops (setup p) (bytes p) (count p) (l .k) (inside p) (l .shown) (l .pending) (l .current) (l .frames) (l .skipped) told in
+    c .lost3 .ensures ∙ ap (answered (setup p)) (sym left)
 
 enum-known-a : tie.Need-enum-known-a Inv-loop μ-loop
 enum-known-a c = search needs
@@ -124,13 +182,12 @@ loop-less-3 c = search needs
 
 loop-again-3 : tie.Need-loop-again-3 Inv-loop μ-loop
 loop-again-3 c =
-    let a = c .before .before .before .before .before .before .before .before .args in
-    let l = c .before .before .before .before .before .before .loop in
-    let s = a .bytes .now in
+    let p = c .before .before .before in
+    let l = top p .loop in
     let j = c .before .a .given .0 .0 .0 in
-    let e = asked (c .before .before .before) ∙ ap actOf (c .before .a .given .1) in
-    let d : j < a .setup .n = selected (a .setup) (eventAt s (8 * l .k)) j e in
-    (search needs, omega (arith, d, small (a .setup) (c .before .before .before .before .before .before .before .before .pre .0) .n), search needs, l .inv .3, l .inv .4 ∙ selects (a .setup) s (length s / 8) (l .k) (search needs) (l .shown) (l .pending) (l .current) (l .frames) (l .skipped) j e)
+    let e = asked p ∙ ap actOf (c .before .a .given .1) in
+    let left = l .inv .4 ∙ selects (setup p) (bytes p) (count p) (l .k) (inside p) (l .shown) (l .pending) (l .current) (l .frames) (l .skipped) j e in
+    (search needs, selected (setup p) (eventAt (bytes p) (8 * l .k)) j e, search needs, l .inv .3, left, l .inv .5)
 
 enum-known-a-2 : tie.Need-enum-known-a-2 Inv-loop μ-loop
 enum-known-a-2 c = search needs
@@ -152,13 +209,14 @@ loop-less-4 c = search needs
 
 loop-again-4 : tie.Need-loop-again-4 Inv-loop μ-loop
 loop-again-4 c =
-    let a = c .before .before .before .before .before .before .before .before .before .args in
-    let l = c .before .before .before .before .before .before .before .loop in
-    let s = a .bytes .now in
+    let p = c .before .before .before .before in
+    let l = top p .loop in
     let v = c .before .before .a2 .given .0 .0 in
-    let p = getD (l .pending) (l .current) blank in
-    let h : l .current < length (l .pending) = omega (arith, l .inv) in
-    (search needs, search needs, search needs, simp length-set (l .inv .3), l .inv .4 ∙ stores (a .setup) s (length s / 8) (l .k) (search needs) (l .shown) (l .pending) (l .current) (l .frames) (l .skipped) 0 (v .0) (record { id = v; x = p .x; y = p .y; pressure = p .pressure }) (asked (c .before .before .before .before) ∙ ap actOf (c .before .before .a2 .given .1)) h refl)
+    let o = getD (l .pending) (l .current) blank in
+    let x : Slot = record { id = v; x = o .x; y = o .y; pressure = o .pressure } in
+    let e = asked p ∙ ap actOf (c .before .before .a2 .given .1) in
+    let left = stored p 0 (v .0) x e refl in
+    (search needs, l .inv .1, search needs, with-id (setup p .n) (l .written) (l .pending) (l .inv .3) (l .current) x (l .inv .1), left, l .inv .5)
 
 enum-known-a-3 : tie.Need-enum-known-a-3 Inv-loop μ-loop
 enum-known-a-3 c = search needs
@@ -174,13 +232,15 @@ loop-less-5 c = search needs
 
 loop-again-5 : tie.Need-loop-again-5 Inv-loop μ-loop
 loop-again-5 c =
-    let a = c .before .before .before .before .before .before .before .before .before .args in
-    let l = c .before .before .before .before .before .before .before .loop in
-    let s = a .bytes .now in
+    let p = c .before .before .before .before in
+    let l = top p .loop in
     let v = c .before .before .a3 .given .0 .0 in
-    let p = getD (l .pending) (l .current) blank in
-    let h : l .current < length (l .pending) = omega (arith, l .inv) in
-    (search needs, search needs, search needs, simp length-set (l .inv .3), l .inv .4 ∙ stores (a .setup) s (length s / 8) (l .k) (search needs) (l .shown) (l .pending) (l .current) (l .frames) (l .skipped) 1 (pos v) (record { id = p .id; x = v; y = p .y; pressure = p .pressure }) (asked (c .before .before .before .before) ∙ ap actOf (c .before .before .a3 .given .1)) h refl)
+    let o = getD (l .pending) (l .current) blank in
+    let x : Slot = record { id = o .id; x = v; y = o .y; pressure = o .pressure } in
+    let e = asked p ∙ ap actOf (c .before .before .a3 .given .1) in
+    let left = stored p 1 (pos v) x e refl in
+    let table = with-number (setup p .n) (l .written) (l .pending) (l .inv .3) (l .current) x (l .inv .1) refl in
+    (search needs, l .inv .1, search needs, table, left, l .inv .5)
 
 enum-known-a-4 : tie.Need-enum-known-a-4 Inv-loop μ-loop
 enum-known-a-4 c = search needs
@@ -196,13 +256,15 @@ loop-less-6 c = search needs
 
 loop-again-6 : tie.Need-loop-again-6 Inv-loop μ-loop
 loop-again-6 c =
-    let a = c .before .before .before .before .before .before .before .before .before .args in
-    let l = c .before .before .before .before .before .before .before .loop in
-    let s = a .bytes .now in
+    let p = c .before .before .before .before in
+    let l = top p .loop in
     let v = c .before .before .a4 .given .0 .0 in
-    let p = getD (l .pending) (l .current) blank in
-    let h : l .current < length (l .pending) = omega (arith, l .inv) in
-    (search needs, search needs, search needs, simp length-set (l .inv .3), l .inv .4 ∙ stores (a .setup) s (length s / 8) (l .k) (search needs) (l .shown) (l .pending) (l .current) (l .frames) (l .skipped) 2 (pos v) (record { id = p .id; x = p .x; y = v; pressure = p .pressure }) (asked (c .before .before .before .before) ∙ ap actOf (c .before .before .a4 .given .1)) h refl)
+    let o = getD (l .pending) (l .current) blank in
+    let x : Slot = record { id = o .id; x = o .x; y = v; pressure = o .pressure } in
+    let e = asked p ∙ ap actOf (c .before .before .a4 .given .1) in
+    let left = stored p 2 (pos v) x e refl in
+    let table = with-number (setup p .n) (l .written) (l .pending) (l .inv .3) (l .current) x (l .inv .1) refl in
+    (search needs, l .inv .1, search needs, table, left, l .inv .5)
 
 enum-known-a-5 : tie.Need-enum-known-a-5 Inv-loop μ-loop
 enum-known-a-5 c = search needs
@@ -218,13 +280,15 @@ loop-less-7 c = search needs
 
 loop-again-7 : tie.Need-loop-again-7 Inv-loop μ-loop
 loop-again-7 c =
-    let a = c .before .before .before .before .before .before .before .before .before .args in
-    let l = c .before .before .before .before .before .before .before .loop in
-    let s = a .bytes .now in
+    let p = c .before .before .before .before in
+    let l = top p .loop in
     let v = c .before .before .a5 .given .0 .0 in
-    let p = getD (l .pending) (l .current) blank in
-    let h : l .current < length (l .pending) = omega (arith, l .inv) in
-    (search needs, search needs, search needs, simp length-set (l .inv .3), l .inv .4 ∙ stores (a .setup) s (length s / 8) (l .k) (search needs) (l .shown) (l .pending) (l .current) (l .frames) (l .skipped) 3 (pos v) (record { id = p .id; x = p .x; y = p .y; pressure = v }) (asked (c .before .before .before .before) ∙ ap actOf (c .before .before .a5 .given .1)) h refl)
+    let o = getD (l .pending) (l .current) blank in
+    let x : Slot = record { id = o .id; x = o .x; y = o .y; pressure = v } in
+    let e = asked p ∙ ap actOf (c .before .before .a5 .given .1) in
+    let left = stored p 3 (pos v) x e refl in
+    let table = with-number (setup p .n) (l .written) (l .pending) (l .inv .3) (l .current) x (l .inv .1) refl in
+    (search needs, l .inv .1, search needs, table, left, l .inv .5)
 
 kept-requires : tie.Need-kept-requires Inv-loop μ-loop
 kept-requires c κs = search needs
@@ -234,7 +298,8 @@ returns-4 c =
     let a = c .before .before .before .before .args in
     let l = c .before .before .loop in
     let s = a .bytes .now in
-    c .kept .ensures ∙ ends (a .setup) s (length s / 8) (l .k) (l .shown) (l .pending) (l .current) (l .frames) (l .skipped) (search needs) ∙ ap (answered (a .setup)) (sym (l .inv .4))
+    let end = ends (a .setup) s (length s / 8) (l .k) (l .shown) (l .pending) (l .current) (l .frames) (l .skipped) (search needs) in
+    c .kept .ensures ∙ end ∙ ap (answered (a .setup)) (sym (l .inv .4))
 
 pub follow-spec : {M : Type 1} → statement M
 follow-spec =
@@ -256,11 +321,11 @@ follow-spec =
     returns
     enum-told-3
     ids-differ-requires
+    lost-requires-2
+    returns-2
     add-frames
     loop-less-2
     loop-again-2
-    lost-requires-2
-    returns-2
     enum-told-4
     lost-requires-3
     returns-3

@@ -1,50 +1,51 @@
 -- `tally::count_changes` counts what changed. The loop has counted the slots from s on. Assumes nothing.
 use borrow.Author.Needs.{needs}
-use mathlib.Core.Path.{_≡_, refl, sym, ap, ap₂, _∙_}
-use mathlib.Core.List.{[]}
+use mathlib.Core.Path.{_≡_, sym, ap, ap₂, _∙_}
 use Prim.Native.Nat.{_<_, _≤_, _+_, _-_, _*_}
 use native.Mathlib.Omega.{arith}
 use lib.Dec.{eqb}
-use lib.ListN.{length, drop, getD, drop-of-length-le}
-use Rattle.model.specs.Sending.{oneUnless, changedIn, changedNumbers, changedMask}
-use Rattle.panel.specs.Seen.{slotOf, tableOf, blank}
-use Rattle.tally.proofs.Mask.{mask-turn, numbers-turn, mask-room}
+use lib.ListN.{length, getD}
+use Rattle.model.specs.Sending.{oneUnless, changedIn}
+use Rattle.panel.specs.Seen.{slotOf, blank}
+use Rattle.tally.proofs.Mask.{maskFrom, numbersFrom, mask-turn, numbers-turn, mask-rest, numbers-rest, mask-room}
 use Rattle.tally.proofs.count_changes.Statement.{statement}
 use Rattle.tally.proofs.count_changes.Tie as tie
 
 abbrev Inv-loop : tie.InvT-loop
-Inv-loop old new mask₀ numbers₀ s₀ mask numbers s = (s ≤ 16) × (mask ≡ changedMask (tableOf (drop s old)) (tableOf (drop s new))) × (numbers ≡ changedNumbers (tableOf (drop s old)) (tableOf (drop s new))) × (numbers ≤ 4 * (16 - s))
+Inv-loop n old new mask₀ numbers₀ s₀ mask numbers s = (s ≤ 16) × (mask ≡ maskFrom old new s) × (numbers ≡ numbersFrom old new s) × (numbers ≤ 4 * (16 - s))
 
 abbrev μ-loop : tie.MeasureT-loop
-μ-loop old new mask₀ numbers₀ s₀ mask numbers s = s
+μ-loop n old new mask₀ numbers₀ s₀ mask numbers s = s
+
+abbrev top : tie.After-some Inv-loop μ-loop → tie.At-loop Inv-loop μ-loop
+top c = c .before .before .before .before .before
 
 -- what a turn makes of the two counts
 turn : (c : tie.After-some Inv-loop μ-loop)
-    → (let a = c .before .before .before .before .before .before .args in let l = c .before .before .before .before .before .loop in
-    (c .some .result + 2 * l .mask ≡ changedMask (tableOf (drop (l .s - 1) (a .t1))) (tableOf (drop (l .s - 1) (a .t2))))
-    × (c .before .differ .result + l .numbers ≡ changedNumbers (tableOf (drop (l .s - 1) (a .t1))) (tableOf (drop (l .s - 1) (a .t2))))
+    → (let a = top c .before .args in let l = top c .loop in
+    (c .some .result + 2 * l .mask ≡ maskFrom (a .t2) (a .t3) (l .s - 1))
+    × (c .before .differ .result + l .numbers ≡ numbersFrom (a .t2) (a .t3) (l .s - 1))
     × (c .some .result + 2 * l .mask < 65536))
 turn c =
-    let a = c .before .before .before .before .before .before .args in
-    let l = c .before .before .before .before .before .loop in
+    let old = top c .before .args .t2 in
+    let new = top c .before .args .t3 in
+    let l = top c .loop in
     let s = l .s - 1 in
-    let lo : length (a .t1) ≡ 16 = search needs in
-    let ln : length (a .t2) ≡ 16 = search needs in
+    let lo : length old ≡ 16 = search needs in
+    let ln : length new ≡ 16 = search needs in
     let up : s + 1 ≡ l .s = omega arith in
-    let d : c .before .differ .result ≡ changedIn (slotOf (getD (a .t1) s blank)) (slotOf (getD (a .t2) s blank)) = c .before .differ .ensures .1 in
-    let b : c .some .result ≡ oneUnless (eqb (changedIn (slotOf (getD (a .t1) s blank)) (slotOf (getD (a .t2) s blank))) 0) = c .some .ensures .1 ∙ ap (λ n. oneUnless (eqb n 0)) d in
-    let m = rw up at (mask-turn (a .t1) (a .t2) s (omega arith) (omega arith)) in
-    let k = rw up at (numbers-turn (a .t1) (a .t2) s (omega arith) (omega arith)) in
-    let mm : c .some .result + 2 * l .mask ≡ changedMask (tableOf (drop s (a .t1))) (tableOf (drop s (a .t2))) = ap₂ (λ x y. x + 2 * y) b (l .inv .1) ∙ sym m in
-    (mm, ap₂ (λ x y. x + y) d (l .inv .2) ∙ sym k, omega (arith, mask-room (a .t1) (a .t2) s lo))
+    let in-slot = changedIn (slotOf (getD old s blank)) (slotOf (getD new s blank)) in
+    let d : c .before .differ .result ≡ in-slot = c .before .differ .ensures .1 in
+    let b : c .some .result ≡ oneUnless (eqb in-slot 0) = c .some .ensures .1 ∙ ap (λ k. oneUnless (eqb k 0)) d in
+    let m = rw up at (mask-turn old new s (omega arith) (omega arith)) in
+    let k = rw up at (numbers-turn old new s (omega arith) (omega arith)) in
+    let mask : c .some .result + 2 * l .mask ≡ maskFrom old new s = ap₂ (λ x y. x + 2 * y) b (l .inv .1) ∙ sym m in
+    (mask, ap₂ (λ x y. x + y) d (l .inv .2) ∙ sym k, omega (arith, mask-room old new s lo))
 
 loop-holds : tie.Need-loop-holds Inv-loop μ-loop
 loop-holds c =
     let a = c .args in
-    let lo : length (a .t1) ≡ 16 = search needs in
-    let le : length (a .t1) ≤ 16 = omega arith in
-    let e : drop 16 (a .t1) ≡ [] = drop-of-length-le (a .t1) le in
-    rw e (omega arith, refl, refl, omega arith)
+    (c .pre .0, sym (mask-rest (a .t2) (a .t3) (a .n) (c .pre .1)), sym (numbers-rest (a .t2) (a .t3) (a .n) (c .pre .1)), search needs)
 
 sub-s : tie.Need-sub-s Inv-loop μ-loop
 sub-s c = search needs
@@ -74,13 +75,13 @@ add-mask : tie.Need-add-mask Inv-loop μ-loop
 add-mask c = omega (arith, turn c .2)
 
 add-numbers : tie.Need-add-numbers Inv-loop μ-loop
-add-numbers c = omega (arith, c .before .before .before .before .before .loop .inv .3, c .before .differ .ensures .0)
+add-numbers c = omega (arith, top c .loop .inv .3, c .before .differ .ensures .0)
 
 loop-less : tie.Need-loop-less Inv-loop μ-loop
 loop-less c = search needs
 
 loop-again : tie.Need-loop-again Inv-loop μ-loop
-loop-again c = (omega arith, turn c .0, turn c .1, omega (arith, c .before .before .before .before .before .loop .inv .3, c .before .differ .ensures .0))
+loop-again c = (omega arith, turn c .0, turn c .1, omega (arith, top c .loop .inv .3, c .before .differ .ensures .0))
 
 returns : tie.Need-returns Inv-loop μ-loop
 returns c =

@@ -2,29 +2,30 @@
 use mathlib.Core.Path.{_≡_, ap, ap₂, _∙_}
 use mathlib.Core.Bool.{cond}
 use mathlib.Core.List.{List}
-use Prim.Native.Nat.{ℕ, _+_}
-use native.Mathlib.Omega.{arith}
+use Prim.Native.Nat.{ℕ, _+_, _-_, _^_}
+use lib.Bits.{bitAnd}
 use lib.Count.{ones}
 use lib.Dec.{eqb}
+use lib.IntN.{ℤ}
 use lib.ListN.{length}
 use Rattle.model.specs.Table as T
 use Rattle.model.specs.Frame.{rowsOf, newTable, newCounter}
-use Rattle.model.specs.Sending.{changedNumbers, changedMask, fewest}
+use Rattle.model.specs.Sending.{changedMask, fewest}
 use Rattle.model.specs.Order.{othersMask}
-use Rattle.model.proofs.Order.{others-ones}
+use Rattle.model.proofs.Calls.{length-rowsFrom}
+use Rattle.model.proofs.Order.{others-ones, mask-without}
 use Rattle.panel.specs.declared.Slot.{Slot}
-use Rattle.panel.specs.Seen.{tableOf, panelSeen}
+use Rattle.panel.specs.Seen.{tableOf, panelSeen, sameFrom}
 use Rattle.panel.proofs.Tables.{unmapped}
-use Rattle.plan.proofs.Turn.{good-plain}
+use Rattle.plan.proofs.Turn.{good-plain, rest-stays}
 use Rattle.writer.specs.declared.WriterState.{WriterState}
-use Rattle.writer.proofs.States.{good-size, good-current, good-counter}
-use Rattle.writer.proofs.Events.{bit-in, bit-out}
+use Rattle.writer.proofs.States.{good-size, good-current, good-counter, good-rest}
 use Rattle.writer.proofs.Accepted.{past-end, too-few, quiet, fits, sent}
 use borrow.Author.Needs.{needs}
 use Rattle.writer.proofs.accept.Statement.{statement}
 use Rattle.writer.proofs.accept.Tie as tie
 
--- ---- what is given, and what the calls make of it
+-- ---- what is given
 
 abbrev st : tie.Start → WriterState
 st s = s .args .state
@@ -35,71 +36,86 @@ old s = tableOf (st s .table)
 abbrev c0 : tie.Start → ℕ
 c0 s = st s .current .0
 
+abbrev fr : tie.Start → List ℤ
+fr s = s .args .frame .now
+
+abbrev rows : tie.Start → List (List ℤ)
+rows s = rowsOf (panelSeen (st s .setup)) (fr s)
+
 old-sixteen : (s : tie.Start) → length (st s .table) ≡ 16
 old-sixteen s = search (needs, unmapped)
 
-new-sixteen : (c : tie.After-plan-frame) → length (c .plan-frame .result .table) ≡ 16
-new-sixteen c = search (needs, unmapped)
+-- ---- what the calls make of it
 
-table-is : (c : tie.After-plan-frame) → (let s = c .before .before .before .before in tableOf (c .plan-frame .result .table) ≡ newTable (st s .counter) (rowsOf (panelSeen (st s .setup)) (s .args .frame .now)) (old s))
-table-is c = rw (c .before .before .before .before .pre .3) at (c .plan-frame .ensures .0)
+abbrev start : tie.After-plan-frame → tie.Start
+start p = p .before .before .before .before .before
 
-counter-is : (c : tie.After-plan-frame) → (let s = c .before .before .before .before in c .plan-frame .result .counter ≡ newCounter (st s .counter) (rowsOf (panelSeen (st s .setup)) (s .args .frame .now)) (old s))
-counter-is c = rw (c .before .before .before .before .pre .3) at (c .plan-frame .ensures .1)
+abbrev table : tie.After-plan-frame → List Slot
+table p = p .plan-frame .result .table
 
-mask-is : (c : tie.After-count-changes) → c .count-changes .result .mask ≡ changedMask (old (c .before .before .before .before .before .before)) (tableOf (c .before .before .plan-frame .result .table))
-mask-is c = rw (c .before .before .before .before .before .before .pre .3) at (c .count-changes .ensures .0)
+abbrev counter : tie.After-plan-frame → ℕ
+counter p = p .plan-frame .result .counter
 
-numbers-are : (c : tie.After-count-changes) → c .count-changes .result .numbers ≡ changedNumbers (old (c .before .before .before .before .before .before)) (tableOf (c .before .before .plan-frame .result .table))
-numbers-are c = rw (c .before .before .before .before .before .before .pre .3) at (c .count-changes .ensures .1)
+new-sixteen : (p : tie.After-plan-frame) → length (table p) ≡ 16
+new-sixteen p = search (needs, unmapped)
 
-others-are : (c : tie.After-without-current) → c .without-current .result ≡ othersMask (c0 (c .before .before .before .before .before .before .before .before)) (old (c .before .before .before .before .before .before .before .before)) (tableOf (c .before .before .before .before .plan-frame .result .table))
-others-are c =
-    let s = c .before .before .before .before .before .before .before .before in
-    let m = c .before .before .count-changes .result .mask in
-    bit-out (st s .table) (c .before .before .before .before .plan-frame .result .table) (old-sixteen s) (new-sixteen (c .before .before .before .before)) (c0 s) (good-current (st s) (s .pre .0)) m (c .without-current .result) (mask-is (c .before .before))
-    (rw (s .pre .4) at (c .without-current .ensures))
+table-is : (p : tie.After-plan-frame) → tableOf (table p) ≡ newTable (st (start p) .counter) (rows (start p)) (old (start p))
+table-is p = p .plan-frame .ensures .0
 
-count-is : (c : tie.After-event-count) → c .event-count .result ≡ fewest (c0 (c .before .before .before .before .before .before .before .before .before)) (old (c .before .before .before .before .before .before .before .before .before)) (tableOf (c .before .before .before .before .before .plan-frame .result .table))
-count-is c =
-    let s = c .before .before .before .before .before .before .before .before .before in
-    c .event-count .ensures .0 ∙ ap₂ (λ n o. cond (eqb n 0) 0 (1 + n + o)) (numbers-are (c .before .before .before)) (ap ones (others-are (c .before)) ∙ others-ones (c0 s) (old s) (tableOf (c .before .before .before .before .before .plan-frame .result .table)))
+counter-is : (p : tie.After-plan-frame) → counter p ≡ newCounter (st (start p) .counter) (rows (start p)) (old (start p))
+counter-is p = p .plan-frame .ensures .1
 
-abbrev new : tie.After-event-count → List Slot
-new e = e .before .before .before .before .before .plan-frame .result .table
+rest-is : (p : tie.After-plan-frame) → sameFrom (st (start p) .setup .n) (st (start p) .table) (table p)
+rest-is p =
+    let s = start p in
+    let n = st s .setup .n in
+    rw (length-rowsFrom 4 n (fr s) 0) at (rest-stays (st s .table) (table p) (st s .counter) (rows s) (table-is p))
 
-abbrev counter : tie.After-event-count → ℕ
-counter e = e .before .before .before .before .before .plan-frame .result .counter
+abbrev plan : tie.After-count-changes → tie.After-plan-frame
+plan t = t .before .before
+
+abbrev mask : tie.After-count-changes → ℕ
+mask t = t .count-changes .result .mask
+
+mask-is : (t : tie.After-count-changes) → mask t ≡ changedMask (old (start (plan t))) (tableOf (table (plan t)))
+mask-is t = t .count-changes .ensures .0
+
+abbrev others : tie.After-without-current → ℕ
+others o = o .without-current .result
+
+others-are : (o : tie.After-without-current) → (let p = plan (o .before) in others o ≡ othersMask (c0 (start p)) (old (start p)) (tableOf (table p)))
+others-are o =
+    let p = plan (o .before) in
+    let c = c0 (start p) in
+    o .without-current .ensures ∙ ap (λ m. m - bitAnd m (2 ^ c)) (mask-is (o .before)) ∙ mask-without c (old (start p)) (tableOf (table p))
 
 abbrev count : tie.After-event-count → ℕ
 count e = e .event-count .result
 
-abbrev mask : tie.After-event-count → ℕ
-mask e = e .before .before .before .count-changes .result .mask
+count-is : (e : tie.After-event-count) → (let p = plan (e .before .before) in count e ≡ fewest (c0 (start p)) (old (start p)) (tableOf (table p)))
+count-is e =
+    let t = e .before .before in
+    let p = plan t in
+    let opened = ap ones (others-are (e .before)) ∙ others-ones (c0 (start p)) (old (start p)) (tableOf (table p)) in
+    e .event-count .ensures .0 ∙ ap₂ (λ n o. cond (eqb n 0) 0 (1 + n + o)) (t .count-changes .ensures .1) opened
+
+-- ---- the needs
 
 plan-frame-requires : tie.Need-plan-frame-requires
 plan-frame-requires c κs =
-    let s = c .before .before .before in
-    (good-size (st s) (s .pre .0), good-counter (st s) (s .pre .0), s .pre .1, good-plain (st s .setup) (st s .setup .n) (s .args .frame .now) 0 (s .pre .2))
+    let s = c .before .before .before .before in
+    let g = s .pre .0 in
+    (good-size (st s) g, good-counter (st s) g, s .pre .1, good-plain (st s .setup) (st s .setup .n) (fr s) 0 (s .pre .2), good-rest (st s) g)
 
 count-changes-requires : tie.Need-count-changes-requires
-count-changes-requires c κs = search needs
-
-mul-is : tie.Need-mul-is
-mul-is c =
-    let s = c .before .before .before .before .before .before in
-    record { fits = omega (arith, good-current (st s) (s .pre .0)) }
-
-array-copy-out-is : tie.Need-array-copy-out-is
-array-copy-out-is c =
-    let s = c .before .before .before .before .before .before in
-    good-current (st s) (s .pre .0)
+count-changes-requires c κs =
+    let s = start (c .before) in
+    (good-size (st s) (s .pre .0), rest-is (c .before))
 
 without-current-requires : tie.Need-without-current-requires
 without-current-requires c κs =
-    let s = c .before .before .before .before .before .before .before in
-    let m = c .before .count-changes .result .mask in
-    rw (s .pre .4) (good-current (st s) (s .pre .0), bit-in (st s .table) (c .before .before .before .plan-frame .result .table) (old-sixteen s) (new-sixteen (c .before .before .before)) (c0 s) (good-current (st s) (s .pre .0)) m (mask-is (c .before)))
+    let s = start (plan c) in
+    good-current (st s) (s .pre .0)
 
 event-count-requires : tie.Need-event-count-requires
 event-count-requires c κs = search needs
@@ -113,8 +129,12 @@ refused-requires c κs = search needs
 returns : tie.Need-returns
 returns c =
     let e = c .before .before in
-    let s = e .before .before .before .before .before .before .before .before .before in
-    let r = past-end (st s) (s .args .frame .now) (s .args .at) (s .args .buf .now) (s .pre .0) (s .pre .1) (s .pre .2) (new e) (counter e) (count e) (mask e) (table-is (e .before .before .before .before .before)) (counter-is (e .before .before .before .before .before)) (mask-is (e .before .before .before)) (count-is e) (c .before .if1 .taken) in
+    let t = e .before .before in
+    let p = plan t in
+    let s = start p in
+    let r = past-end (st s) (fr s) (s .args .at) (s .args .buf .now) (s .pre .0) (s .pre .1) (s .pre .2)
+    (table p) (counter p) (count e) (mask t) (table-is p) (counter-is p) (mask-is t) (count-is e)
+    (c .before .if1 .taken) in
     (c .refused .ensures ∙ r .0, r .1)
 
 sub-if2 : tie.Need-sub-if2
@@ -126,8 +146,12 @@ refused-requires-2 c κs = search needs
 returns-2 : tie.Need-returns-2
 returns-2 c =
     let e = c .before .before .before in
-    let s = e .before .before .before .before .before .before .before .before .before in
-    let r = too-few (st s) (s .args .frame .now) (s .args .at) (s .args .buf .now) (s .pre .0) (s .pre .1) (s .pre .2) (new e) (counter e) (count e) (mask e) (table-is (e .before .before .before .before .before)) (counter-is (e .before .before .before .before .before)) (mask-is (e .before .before .before)) (count-is e) (c .before .if2 .taken) in
+    let t = e .before .before in
+    let p = plan t in
+    let s = start p in
+    let r = too-few (st s) (fr s) (s .args .at) (s .args .buf .now) (s .pre .0) (s .pre .1) (s .pre .2)
+    (table p) (counter p) (count e) (mask t) (table-is p) (counter-is p) (mask-is t) (count-is e)
+    (c .before .if2 .taken) in
     (c .refused2 .ensures ∙ r .0, r .1)
 
 taken-requires : tie.Need-taken-requires
@@ -136,15 +160,25 @@ taken-requires c κs = search needs
 returns-3 : tie.Need-returns-3
 returns-3 c =
     let e = c .before .before .before .before in
-    let s = e .before .before .before .before .before .before .before .before .before in
-    let r = quiet (st s) (s .args .frame .now) (s .args .at) (s .args .buf .now) (s .pre .0) (s .pre .1) (s .pre .2) (new e) (counter e) (count e) (mask e) (table-is (e .before .before .before .before .before)) (counter-is (e .before .before .before .before .before)) (mask-is (e .before .before .before)) (count-is e) (c .before .before .before .if1 .left) (c .before .before .if2 .left) (c .before .if3 .taken) in
+    let t = e .before .before in
+    let p = plan t in
+    let s = start p in
+    let r = quiet (st s) (fr s) (s .args .at) (s .args .buf .now) (s .pre .0) (s .pre .1) (s .pre .2)
+    (table p) (counter p) (count e) (mask t) (table-is p) (counter-is p) (mask-is t) (count-is e)
+    (c .before .before .before .if1 .left) (c .before .before .if2 .left) (c .before .if3 .taken) in
     (c .taken .ensures ∙ r .0, r .1)
 
 send-frame-requires : tie.Need-send-frame-requires
 send-frame-requires c κs =
-    let e = c .before .before .before .before in
-    let s = e .before .before .before .before .before .before .before .before .before in
-    rw (s .pre .3) (good-current (st s) (s .pre .0), fits (st s) (s .args .frame .now) (s .args .at) (s .args .buf .now) (s .pre .0) (s .pre .1) (s .pre .2) (new e) (counter e) (count e) (mask e) (table-is (e .before .before .before .before .before)) (counter-is (e .before .before .before .before .before)) (mask-is (e .before .before .before)) (count-is e) (c .before .before .before .if1 .left) (c .before .before .if2 .left) (e .before .without-current .result) (old-sixteen s) (new-sixteen (e .before .before .before .before .before)) (others-are (e .before)) (c .before .if3 .left))
+    let i = c .before in
+    let e = i .before .before .before in
+    let t = e .before .before in
+    let p = plan t in
+    let s = start p in
+    let room = fits (st s) (fr s) (s .args .at) (s .args .buf .now) (s .pre .0) (s .pre .1) (s .pre .2)
+    (table p) (counter p) (count e) (mask t) (table-is p) (counter-is p) (mask-is t) (count-is e)
+    (i .before .before .if1 .left) (i .before .if2 .left) (others (e .before)) (old-sixteen s) (new-sixteen p) (others-are (e .before)) (i .if3 .left) in
+    (good-current (st s) (s .pre .0), room)
 
 taken-requires-2 : tie.Need-taken-requires-2
 taken-requires-2 c κs = search needs
@@ -154,10 +188,17 @@ same-length c = search needs
 
 returns-4 : tie.Need-returns-4
 returns-4 c =
-    let e = c .before .before .before .before .before .before .before .before in
-    let s = e .before .before .before .before .before .before .before .before .before in
-    let o = c .before .before .before .send-frame in
-    let r = sent (st s) (s .args .frame .now) (s .args .at) (s .args .buf .now) (s .pre .0) (s .pre .1) (s .pre .2) (new e) (counter e) (count e) (mask e) (table-is (e .before .before .before .before .before)) (counter-is (e .before .before .before .before .before)) (mask-is (e .before .before .before)) (count-is e) (c .before .before .before .before .before .before .before .if1 .left) (c .before .before .before .before .before .before .if2 .left) (e .before .without-current .result) (old-sixteen s) (new-sixteen (e .before .before .before .before .before)) (others-are (e .before)) (c .before .before .before .before .before .if3 .left) (o .result .0) (o .last .0) (rw (s .pre .3) at (o .ensures .0)) (rw (s .pre .3) at (o .ensures .1)) in
+    let w = c .before .before .before in
+    let i = w .before .before in
+    let e = i .before .before .before in
+    let t = e .before .before in
+    let p = plan t in
+    let s = start p in
+    let o = w .send-frame in
+    let r = sent (st s) (fr s) (s .args .at) (s .args .buf .now) (s .pre .0) (s .pre .1) (s .pre .2)
+    (table p) (counter p) (count e) (mask t) (table-is p) (counter-is p) (mask-is t) (count-is e)
+    (i .before .before .if1 .left) (i .before .if2 .left) (others (e .before)) (old-sixteen s) (new-sixteen p) (others-are (e .before)) (i .if3 .left)
+    (o .result .0) (o .last .0) (o .ensures .0) (o .ensures .1) in
     (c .taken2 .ensures ∙ r .0, r .1)
 
 pub accept-spec : {M : Type 1} → statement M
@@ -166,8 +207,6 @@ accept-spec =
     (tie.spec
     plan-frame-requires
     count-changes-requires
-    mul-is
-    array-copy-out-is
     without-current-requires
     event-count-requires
     mul-need

@@ -7,7 +7,7 @@ use borrow.Author.Tests.{not-true, not-false, le-ltb, lt-ltb}
 use Rattle.model.specs.Panel.{base, setupGood}
 use Rattle.model.specs.Table.{idsDiffer, goodRecords}
 use Rattle.panel.specs.Seen.{tableOf, setupOf, fieldsOf}
-use Rattle.panel.proofs.Tables.{unmapped}
+use Rattle.panel.proofs.Tables.{unmapped, good-rest}
 use Rattle.writer.specs.declared.WriterState.{WriterState}
 use Rattle.panel.proofs.Setups.{small}
 use Rattle.writer.proofs.States.{good-by}
@@ -58,7 +58,10 @@ returns-2 c =
     sym (good-by (st s) (sixteen s) true false (ids s) (below s) (setup-is (c .before .before)) (sym (c .before .table-ok .ensures) ∙ not-true (c .before .table-ok .result) (c .if2 .taken)) refl refl)
 
 ids-differ-requires : tie.Need-ids-differ-requires
-ids-differ-requires c κs = search needs
+ids-differ-requires c κs =
+    let s = c .before .before .before .before in
+    let g = setup-is (c .before .before) in
+    (small (st s .setup) g .n, good-rest (st s .setup) (st s .table) (sixteen s) (records-are c))
 
 returns-3 : tie.Need-returns-3
 returns-3 c =

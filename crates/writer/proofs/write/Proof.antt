@@ -15,7 +15,7 @@ use Rattle.model.specs.Calls.{needOf, roomFor}
 use Rattle.panel.specs.Seen.{panelSeen}
 use Rattle.writer.specs.declared.WriterState.{WriterState}
 use Rattle.writer.specs.Seen.{seen, writtenFrom}
-use Rattle.writer.proofs.States.{good-setup, good-size, good-current}
+use Rattle.writer.proofs.States.{good-setup, good-size}
 use Rattle.writer.proofs.Outcome.{answer-by, buffer-by, refusal-is}
 use borrow.Author.Needs.{needs}
 use Rattle.writer.proofs.write.Statement.{statement}
@@ -92,16 +92,13 @@ returns-3 c =
       sym (buffer-by base (seen (st s)) (fr s) (s .args .at) (s .args .buf .now) true true false (room s) g z v refl),
     )
 
-mul-was : tie.Need-mul-was
-mul-was c = record { fits = omega (arith, good-current (st (c .before .before .before .before .before .before .before .before .before .before)) (state-good (c .before .before .before .before))) }
-
-array-copy-out-was : tie.Need-array-copy-out-was
-array-copy-out-was c = good-current (st (c .before .before .before .before .before .before .before .before .before .before)) (state-good (c .before .before .before .before))
-
 accept-requires : tie.Need-accept-requires
 accept-requires c κs =
-    let v : values (c .before .before .before .before .before .before .before .before .before .before .before .before) ≡ true = sym (c .before .before .before .values-ok .ensures) ∙ not-false (c .before .before .before .values-ok .result) (c .before .before .if3 .left) in
-    (state-good (c .before .before .before .before .before .before), c .before .before .before .before .if2 .left, v, refl, refl)
+    let k = c .before .before in
+    let e = k .before in
+    let s = e .before .before .before .before .before .before .before .before in
+    let v : values s ≡ true = sym (k .values-ok .ensures) ∙ not-false (k .values-ok .result) (c .before .if3 .left) in
+    (state-good (e .before .before), e .if2 .left, v)
 
 same-length : tie.Need-same-length
 same-length c = search needs
@@ -122,8 +119,6 @@ write-spec =
     values-ok-requires
     refused-requires-3
     returns-3
-    mul-was
-    array-copy-out-was
     accept-requires
     same-length
     returns-4)
