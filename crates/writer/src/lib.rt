@@ -71,10 +71,11 @@ impl WriterState {
     }
 }
 
-// The parts of a state and not the state: a whole one would be copied number by number.
-fn state_ok(setup: Setup, table: [Slot; RECORDS], current: SlotNumber, counter: u32) -> bool
-    ensures { λ r. ⌜ r ≡ writerGood base (seen (record { setup = setup; table = table; current = current; counter = counter })) ⌝ }
+fn state_ok(s: WriterState) -> bool
+    ensures { λ r. ⌜ r ≡ writerGood base (seen s) ⌝ }
 {
+    let setup = s.setup;
+    let table = s.table;
     if !panel::setup_ok(setup) {
         return false;
     }
@@ -84,10 +85,11 @@ fn state_ok(setup: Setup, table: [Slot; RECORDS], current: SlotNumber, counter: 
     if !panel::ids_differ(setup.n, table) {
         return false;
     }
+    let current = s.current;
     if setup.n <= current.0 {
         return false;
     }
-    counter < 65536
+    s.counter < 65536
 }
 
 // The number of events: one for each changed number and each slot that is opened, and the report.
@@ -170,9 +172,7 @@ pub fn write(state: WriterState, frame: &[i32], buf: &mut [u8], at: usize) -> Wr
     ensures { λ r. ⌜ (r ≡ writtenFrom (writeCall base (seen state) (now (frame .entry)) at (length (now (buf .entry))))) × (now (buf .exit) ≡ writeBuffer base (seen state) (now (frame .entry)) at (now (buf .entry))) ⌝ }
 {
     let setup = state.setup;
-    let table = state.table;
-    let current = state.current;
-    if !state_ok(setup, table, current, state.counter) {
+    if !state_ok(state) {
         return refused(Verdict::State, state, 0);
     }
     if frame.len() != 4 * setup.n {

@@ -41,11 +41,16 @@ whole s = sized (panelSeen (st s .setup)) (fr s)
 abbrev values : tie.Start → Bool
 values s = valuesGood (panelSeen (st s .setup)) (fr s)
 
-state-good : (c : tie.Else1) → writerGood base (seen (st (c .before .before .before .before .before .before))) ≡ true
+abbrev start : tie.After-state-ok → tie.Start
+start k = k .before .before .before
+
+state-good : (c : tie.Else1) → writerGood base (seen (st (start (c .before)))) ≡ true
 state-good c = sym (c .before .state-ok .ensures) ∙ not-false (c .before .state-ok .result) (c .if1 .left)
 
-frame-whole : (c : tie.Else2) → whole (c .before .before .before .before .before .before .before .before) ≡ true
+frame-whole : (c : tie.Else2) → whole (start (c .before .before .before)) ≡ true
 frame-whole c = eq-eqb _ _ (c .if2 .left)
+
+-- ---- the needs
 
 state-ok-requires : tie.Need-state-ok-requires
 state-ok-requires c κs = search needs
@@ -55,50 +60,63 @@ refused-requires c κs = search needs
 
 returns : tie.Need-returns
 returns c =
-    let s = c .before .before .before .before .before .before .before in
-    let g : writerGood base (seen (st s)) ≡ false = sym (c .before .before .state-ok .ensures) ∙ not-true (c .before .before .state-ok .result) (c .before .if1 .taken) in (
-      c .refused .ensures ∙ refusal-is C.state (st s) (need s) ∙ ap writtenFrom (sym (answer-by base (seen (st s)) (fr s) (s .args .at) (s .args .buf .now) false (whole s) (values s) (room s) g refl refl refl)),
-      sym (buffer-by base (seen (st s)) (fr s) (s .args .at) (s .args .buf .now) false (whole s) (values s) (room s) g refl refl refl),
+    let k = c .before .before in
+    let s = start k in
+    let buf = s .args .buf .now in
+    let g : writerGood base (seen (st s)) ≡ false = sym (k .state-ok .ensures) ∙ not-true (k .state-ok .result) (c .before .if1 .taken) in
+    let answer = answer-by base (seen (st s)) (fr s) (s .args .at) buf false (whole s) (values s) (room s) g refl refl refl in (
+      c .refused .ensures ∙ refusal-is C.state (st s) (need s) ∙ ap writtenFrom (sym answer),
+      sym (buffer-by base (seen (st s)) (fr s) (s .args .at) buf false (whole s) (values s) (room s) g refl refl refl),
     )
 
 mul-if2 : tie.Need-mul-if2
-mul-if2 c = omega (arith, good-size (st (c .before .before .before .before .before .before .before)) (state-good (c .before)))
+mul-if2 c = omega (arith, good-size (st (start (c .before .before))) (state-good (c .before)))
 
 refused-requires-2 : tie.Need-refused-requires-2
 refused-requires-2 c κs = search needs
 
 returns-2 : tie.Need-returns-2
 returns-2 c =
-    let s = c .before .before .before .before .before .before .before .before .before in
-    let g = state-good (c .before .before .before) in
-    let z : whole s ≡ false = ne-eqb (length (fr s)) (4 * st s .setup .n) (c .before .if2 .taken) in (
-      c .refused2 .ensures ∙ refusal-is C.frame (st s) (need s) ∙ ap writtenFrom (sym (answer-by base (seen (st s)) (fr s) (s .args .at) (s .args .buf .now) true false (values s) (room s) g z refl refl)),
-      sym (buffer-by base (seen (st s)) (fr s) (s .args .at) (s .args .buf .now) true false (values s) (room s) g z refl refl),
+    let e = c .before .before .before in
+    let s = start (e .before) in
+    let buf = s .args .buf .now in
+    let g = state-good e in
+    let z : whole s ≡ false = ne-eqb (length (fr s)) (4 * st s .setup .n) (c .before .if2 .taken) in
+    let answer = answer-by base (seen (st s)) (fr s) (s .args .at) buf true false (values s) (room s) g z refl refl in (
+      c .refused2 .ensures ∙ refusal-is C.frame (st s) (need s) ∙ ap writtenFrom (sym answer),
+      sym (buffer-by base (seen (st s)) (fr s) (s .args .at) buf true false (values s) (room s) g z refl refl),
     )
 
 values-ok-requires : tie.Need-values-ok-requires
-values-ok-requires c κs = (good-setup (st (c .before .before .before .before .before .before .before .before)) (state-good (c .before .before)), c .if2 .left)
+values-ok-requires c κs =
+    let e = c .before .before in
+    (good-setup (st (start (e .before))) (state-good e), c .if2 .left)
 
 refused-requires-3 : tie.Need-refused-requires-3
 refused-requires-3 c κs = search needs
 
 returns-3 : tie.Need-returns-3
 returns-3 c =
-    let s = c .before .before .before .before .before .before .before .before .before .before .before in
-    let g = state-good (c .before .before .before .before .before) in
-    let z = frame-whole (c .before .before .before) in
-    let v : values s ≡ false = sym (c .before .before .values-ok .ensures) ∙ not-true (c .before .before .values-ok .result) (c .before .if3 .taken) in (
-      c .refused3 .ensures ∙ refusal-is C.value (st s) (need s) ∙ ap writtenFrom (sym (answer-by base (seen (st s)) (fr s) (s .args .at) (s .args .buf .now) true true false (room s) g z v refl)),
-      sym (buffer-by base (seen (st s)) (fr s) (s .args .at) (s .args .buf .now) true true false (room s) g z v refl),
+    let k = c .before .before in
+    let f = k .before in
+    let e = f .before .before in
+    let s = start (e .before) in
+    let buf = s .args .buf .now in
+    let g = state-good e in
+    let z = frame-whole f in
+    let v : values s ≡ false = sym (k .values-ok .ensures) ∙ not-true (k .values-ok .result) (c .before .if3 .taken) in
+    let answer = answer-by base (seen (st s)) (fr s) (s .args .at) buf true true false (room s) g z v refl in (
+      c .refused3 .ensures ∙ refusal-is C.value (st s) (need s) ∙ ap writtenFrom (sym answer),
+      sym (buffer-by base (seen (st s)) (fr s) (s .args .at) buf true true false (room s) g z v refl),
     )
 
 accept-requires : tie.Need-accept-requires
 accept-requires c κs =
     let k = c .before .before in
-    let e = k .before in
-    let s = e .before .before .before .before .before .before .before .before in
-    let v : values s ≡ true = sym (k .values-ok .ensures) ∙ not-false (k .values-ok .result) (c .before .if3 .left) in
-    (state-good (e .before .before), e .if2 .left, v)
+    let f = k .before in
+    let e = f .before .before in
+    let v : values (start (e .before)) ≡ true = sym (k .values-ok .ensures) ∙ not-false (k .values-ok .result) (c .before .if3 .left) in
+    (state-good e, f .if2 .left, v)
 
 same-length : tie.Need-same-length
 same-length c = search needs
