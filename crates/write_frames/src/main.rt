@@ -78,60 +78,42 @@ fn longer(page: &[u8], out: Out, count: usize) -> Out {
     }
 }
 
-fn send_numbers(page: &mut [u8], s: Sending, frame: &[i32]) -> Sending {
-    let state = s.state;
-    let out = s.out;
-    let o = roomy(page, out);
-    if o.broken {
-        return Sending {
-            state,
-            out: o,
-            frame: s.frame,
-        };
-    }
-    let a = writer::write(state, frame, page, o.held);
-    let next = a.state;
-    let verdict = a.verdict;
+// The output after a frame: longer by its records, or its refusal is said.
+fn answered(page: &[u8], out: Out, frame: u64, verdict: Verdict, count: usize) -> Out {
     if verdict.number() != 0 {
-        return Sending {
-            state: next,
-            out: warn_frame(o, s.frame, verdict),
-            frame: s.frame,
-        };
+        return warn_frame(out, frame, verdict);
     }
-    Sending {
-        state: next,
-        out: longer(page, o, a.count),
-        frame: s.frame,
-    }
+    longer(page, out, count)
 }
 
-// One frame. A frame that is cut short goes to the writer as it is, which refuses it by its length.
-fn send_frame(page: &mut [u8], s: Sending, bytes: &[u8]) -> Sending {
-    let mut numbers = [0i32; NUMBERS];
-    let count = numbers_of(bytes, &mut numbers);
-    let sent = send_numbers(page, s, &numbers[..count]);
-    let state = sent.state;
-    let out = sent.out;
-    Sending {
-        state,
-        out,
-        frame: std::num::wrapping_add_u64(s.frame, 1),
-    }
-}
-
-// Each whole frame of the bytes.
+// Each frame of `want` bytes. The state and the numbers are the loop's own: lent from call to call, a whole state would be copied for every frame, and the numbers cleared.
 fn send_frames(page: &mut [u8], s: Sending, bytes: &[u8], want: usize) -> Sending {
-    let mut t = s;
+    let mut numbers = [0i32; NUMBERS];
+    let mut state = s.state;
+    let mut out = s.out;
+    let mut frame = s.frame;
     let mut at: usize = 0;
     if want == 0 {
-        return t;
+        return s;
     }
     while want <= bytes.len() - at {
-        t = send_frame(page, t, &bytes[at..at + want]);
+        let count = numbers_of(&bytes[at..at + want], &mut numbers);
+        let o = roomy(page, out);
+        if o.broken {
+            return Sending {
+                state,
+                out: o,
+                frame,
+            };
+        }
+        let a = writer::write(state, &numbers[..count], page, o.held);
+        state = a.state;
+        let verdict = a.verdict;
+        out = answered(page, o, frame, verdict, a.count);
+        frame = std::num::wrapping_add_u64(frame, 1);
         at += want;
     }
-    t
+    Sending { state, out, frame }
 }
 
 // Moves the bytes of a frame that is not whole yet to the front.
@@ -185,7 +167,7 @@ fn flushed(page: &[u8], s: Sending) -> Sending {
     }
 }
 
-// The read failed, or the input ended: inside a frame that is a loss too.
+// The read failed, or the input ended: inside a frame that is a loss too, and the writer refuses what came of it by its length.
 fn end(page: &mut [u8], s: Sending, bytes: &[u8], failed: bool) -> Sending {
     if failed {
         let state = s.state;
@@ -200,7 +182,7 @@ fn end(page: &mut [u8], s: Sending, bytes: &[u8], failed: bool) -> Sending {
     if bytes.len() == 0 {
         return s;
     }
-    let refused = send_frame(page, s, bytes);
+    let refused = send_frames(page, s, bytes, bytes.len());
     lose(page, refused)
 }
 

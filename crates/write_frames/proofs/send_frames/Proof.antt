@@ -1,16 +1,25 @@
 -- `write_frames::send_frames` lends no byte past those lent to it. The loop has sent the frames before `at`. Assumes nothing.
 use Prim.Native.Nat.{_≤_, _-_}
 use mathlib.Core.Path.{_≡_}
+use native.Mathlib.Omega.{arith}
 use lib.ListN.{length}
 use borrow.Author.Needs.{needs}
 use Rattle.write_frames.proofs.send_frames.Statement.{statement}
 use Rattle.write_frames.proofs.send_frames.Tie as tie
 
 abbrev Inv-loop : tie.InvT-loop
-Inv-loop page₀ bytes want t₀ at₀ page t at = (at ≤ length bytes) × (1 ≤ want) × (length page ≡ length page₀)
+Inv-loop page₀ bytes want numbers₀ state₀ out₀ frame₀ at₀ page numbers state out frame at =
+    (at ≤ length bytes) × (1 ≤ want) × (length page ≡ length page₀) × (length numbers ≡ 64)
 
 abbrev μ-loop : tie.MeasureT-loop
-μ-loop page₀ bytes want t₀ at₀ page t at = length bytes - at
+μ-loop page₀ bytes want numbers₀ state₀ out₀ frame₀ at₀ page numbers state out frame at = length bytes - at
+
+-- Where a turn's frame was written, and where the turn began: too far from its end for a search.
+abbrev wrote : tie.After-wrapping-add-u64 Inv-loop μ-loop → tie.After-write Inv-loop μ-loop
+wrote c = c .before .before .before .before .before .before
+
+abbrev turn : tie.After-wrapping-add-u64 Inv-loop μ-loop → tie.In-loop Inv-loop μ-loop
+turn c = wrote c .before .before .before .before .before .before .before .before .before .before
 
 returns : tie.Need-returns Inv-loop μ-loop
 returns c = search needs
@@ -21,35 +30,62 @@ loop-holds c = search needs
 sub-loop : tie.Need-sub-loop Inv-loop μ-loop
 sub-loop c = search needs
 
-add-send-frame : tie.Need-add-send-frame Inv-loop μ-loop
-add-send-frame c = search needs
+add-numbers-of : tie.Need-add-numbers-of Inv-loop μ-loop
+add-numbers-of c = search needs
 
-sub-send-frame : tie.Need-sub-send-frame Inv-loop μ-loop
-sub-send-frame c = search needs
+sub-numbers-of : tie.Need-sub-numbers-of Inv-loop μ-loop
+sub-numbers-of c = search needs
 
-part-send-frame-start : tie.Need-part-send-frame-start Inv-loop μ-loop
-part-send-frame-start c = search needs
+part-numbers-of-start : tie.Need-part-numbers-of-start Inv-loop μ-loop
+part-numbers-of-start c = search needs
 
-part-send-frame-end : tie.Need-part-send-frame-end Inv-loop μ-loop
-part-send-frame-end c = search needs
+part-numbers-of-end : tie.Need-part-numbers-of-end Inv-loop μ-loop
+part-numbers-of-end c = search needs
 
-send-frame-requires : tie.Need-send-frame-requires Inv-loop μ-loop
-send-frame-requires c κs = search needs
+slice-aggregate-numbers-of : tie.Need-slice-aggregate-numbers-of Inv-loop μ-loop
+slice-aggregate-numbers-of c = search needs
 
-add-at : tie.Need-add-at Inv-loop μ-loop
-add-at c = search needs
+numbers-of-requires : tie.Need-numbers-of-requires Inv-loop μ-loop
+numbers-of-requires c κs = search needs
 
-loop-less : tie.Need-loop-less Inv-loop μ-loop
-loop-less c = search needs
-
-loop-again : tie.Need-loop-again Inv-loop μ-loop
-loop-again c = search needs
+roomy-requires : tie.Need-roomy-requires Inv-loop μ-loop
+roomy-requires c κs = search needs
 
 same-length : tie.Need-same-length Inv-loop μ-loop
 same-length c = search needs
 
 returns-2 : tie.Need-returns-2 Inv-loop μ-loop
 returns-2 c = search needs
+
+array-share-prefix-numbers : tie.Need-array-share-prefix-numbers Inv-loop μ-loop
+array-share-prefix-numbers c = search needs
+
+slice-aggregate-write : tie.Need-slice-aggregate-write Inv-loop μ-loop
+slice-aggregate-write c = search needs
+
+write-requires : tie.Need-write-requires Inv-loop μ-loop
+write-requires c κs = search needs
+
+answered-requires : tie.Need-answered-requires Inv-loop μ-loop
+answered-requires c κs = search needs
+
+wrapping-add-u64-requires : tie.Need-wrapping-add-u64-requires Inv-loop μ-loop
+wrapping-add-u64-requires c κs = search needs
+
+add-at : tie.Need-add-at Inv-loop μ-loop
+add-at c = omega (arith, turn c)
+
+loop-less : tie.Need-loop-less Inv-loop μ-loop
+loop-less c = omega (arith, turn c)
+
+loop-again : tie.Need-loop-again Inv-loop μ-loop
+loop-again c = (omega (arith, turn c), omega (arith, turn c), omega (arith, turn c, wrote c), search needs)
+
+same-length-2 : tie.Need-same-length-2 Inv-loop μ-loop
+same-length-2 c = search needs
+
+returns-3 : tie.Need-returns-3 Inv-loop μ-loop
+returns-3 c = search needs
 
 pub send-frames-spec : {M : Type 1} → statement M
 send-frames-spec =
@@ -60,13 +96,22 @@ send-frames-spec =
     returns
     loop-holds
     sub-loop
-    add-send-frame
-    sub-send-frame
-    part-send-frame-start
-    part-send-frame-end
-    send-frame-requires
+    add-numbers-of
+    sub-numbers-of
+    part-numbers-of-start
+    part-numbers-of-end
+    slice-aggregate-numbers-of
+    numbers-of-requires
+    roomy-requires
+    same-length
+    returns-2
+    array-share-prefix-numbers
+    slice-aggregate-write
+    write-requires
+    answered-requires
+    wrapping-add-u64-requires
     add-at
     loop-less
     loop-again
-    same-length
-    returns-2)
+    same-length-2
+    returns-3)
