@@ -5,8 +5,8 @@
 use crate::events::{events, RECORD};
 use crate::reader::Reader;
 use crate::records;
-use crate::script::Call;
-use crate::table::{Slot, Table, SLOTS};
+use crate::script::{Call, HEAD_NUMBERS, MOST_NUMBERS, READER_NUMBERS, TABLE_NUMBERS, WRITER_NUMBERS};
+use crate::table::{Slot, Table, SLOTS, SLOT_NUMBERS};
 
 /// A whole brief script as a script for `drive`; an error names its line.
 pub fn expand(text: &str) -> Result<String, String> {
@@ -27,43 +27,60 @@ fn expand_line(line: &str) -> Result<String, String> {
     let mut out: Vec<String> = Vec::new();
     let mut rest = line.trim();
     while !rest.is_empty() {
-        if let Some(inside) = rest.strip_prefix('[') {
-            let (table, after) = inside.split_once(']').ok_or("a [ without its ]")?;
-            expand_table(table, &mut out)?;
-            rest = after;
-        } else if let Some(inside) = rest.strip_prefix('{') {
-            let (event, after) = inside.split_once('}').ok_or("a { without its }")?;
-            let words: Vec<&str> = event.split_whitespace().collect();
-            let bytes = records::event(&words)?.to_bytes();
-            let (times, after) = match after.strip_prefix('*') {
-                Some(counted) => {
-                    let (count, after) = counted.split_once(' ').unwrap_or((counted, ""));
-                    let times: usize = count.parse().map_err(|_| format!("'{count}' is no count"))?;
-                    (times, after)
-                }
-                None => (1, after),
-            };
-            for _ in 0..times {
-                out.extend(bytes.iter().map(u8::to_string));
-            }
-            rest = after;
-        } else {
-            let (word, after) = rest.split_once(' ').unwrap_or((rest, ""));
-            out.push(word.to_string());
-            rest = after;
-        }
-        rest = rest.trim_start();
+        rest = expand_part(rest, &mut out)?.trim_start();
     }
     Ok(out.join(" "))
 }
 
+/// Writes out the table, the record or the word that `rest` begins with; what comes after it.
+fn expand_part<'a>(rest: &'a str, out: &mut Vec<String>) -> Result<&'a str, String> {
+    if let Some(inside) = rest.strip_prefix('[') {
+        let (table, after) = inside.split_once(']').ok_or("a [ without its ]")?;
+        expand_table(table, out)?;
+        return Ok(after);
+    }
+    if let Some(inside) = rest.strip_prefix('{') {
+        let (event, after) = inside.split_once('}').ok_or("a { without its }")?;
+        return expand_record(event, after, out);
+    }
+    let (word, after) = rest.split_once(' ').unwrap_or((rest, ""));
+    out.push(word.to_string());
+    Ok(after)
+}
+
+fn expand_record<'a>(event: &str, after: &'a str, out: &mut Vec<String>) -> Result<&'a str, String> {
+    let words: Vec<&str> = event.split_whitespace().collect();
+    let bytes = records::event(&words)?.to_bytes();
+    let (times, after) = match after.strip_prefix('*') {
+        Some(counted) => {
+            let (count, after) = counted.split_once(' ').unwrap_or((counted, ""));
+            (times(count, out.len())?, after)
+        }
+        None => (1, after),
+    };
+    for _ in 0..times {
+        out.extend(bytes.iter().map(u8::to_string));
+    }
+    Ok(after)
+}
+
+/// How often a record is repeated behind so many words. A few letters must not take all memory: one record more than a call may have is enough to write a line that is none.
+fn times(count: &str, behind: usize) -> Result<usize, String> {
+    let times: usize = count.parse().map_err(|_| format!("'{count}' is no count"))?;
+    let most = (1 + MOST_NUMBERS).saturating_sub(behind) / RECORD + 1;
+    if times > most {
+        return Err(format!("{times} records, where at most {most} are of use"));
+    }
+    Ok(times)
+}
+
 fn expand_table(inside: &str, out: &mut Vec<String>) -> Result<(), String> {
     let numbers: Vec<&str> = inside.split_whitespace().collect();
-    if numbers.len() % 4 != 0 || numbers.len() > 4 * SLOTS {
-        return Err(format!("a table of {} numbers: four a slot, at most 64", numbers.len()));
+    if numbers.len() % SLOT_NUMBERS != 0 || numbers.len() > TABLE_NUMBERS {
+        return Err(format!("a table of {} numbers: four a slot, at most {TABLE_NUMBERS}", numbers.len()));
     }
     out.extend(numbers.iter().map(|number| number.to_string()));
-    for _ in numbers.len() / 4..SLOTS {
+    for _ in numbers.len() / SLOT_NUMBERS..SLOTS {
         out.extend(["-1", "0", "0", "0"].map(str::to_string));
     }
     Ok(())
@@ -85,17 +102,18 @@ pub fn shorten(call: &Call) -> String {
             line
         }
         Call::One { reader, .. } | Call::Load { reader, .. } | Call::Ask { reader, .. } | Call::Good { reader } => {
-            join(short_reader(&words, reader), &words[135..])
+            join(short_reader(&words, reader), &words[READER_NUMBERS + 1..])
         }
         Call::Write { writer, .. } => {
-            join(format!("{} {}", words[..7].join(" "), short_table(&writer.table)), &words[71..])
+            let head = words[..=HEAD_NUMBERS].join(" ");
+            join(format!("{head} {}", short_table(&writer.table)), &words[WRITER_NUMBERS + 1..])
         }
         Call::Fresh(_) | Call::New(_) | Call::Start | Call::Pod { .. } => long,
     }
 }
 
 fn short_reader(words: &[&str], reader: &Reader) -> String {
-    format!("{} {} {}", words[..7].join(" "), short_table(&reader.shown), short_table(&reader.pending))
+    format!("{} {} {}", words[..=HEAD_NUMBERS].join(" "), short_table(&reader.shown), short_table(&reader.pending))
 }
 
 fn short_table(table: &Table) -> String {
@@ -122,10 +140,8 @@ mod tests {
     fn short_lines_come_back() {
         let mut maker = Maker::new(4);
         for _ in 0..1000 {
-            let lines = maker.lines();
-            let line = lines.lines().nth(1).unwrap();
-            if let Some(call) = Call::parse(line.as_bytes()) {
-                assert_eq!(expand_line(&shorten(&call)).as_deref(), Ok(line));
+            if let Some(call) = Call::parse(maker.next_line().as_bytes()) {
+                assert_eq!(expand_line(&shorten(&call)), Ok(call.line()));
             }
         }
     }
@@ -143,8 +159,12 @@ mod tests {
             ("run {X", "line 1: a { "),
             ("run {Z 1}", "line 1: 'Z'"),
             ("run {X 1}*q", "line 1: 'q'"),
+            ("run {X 1}*9999999999999999", "line 1: 9999999999999999 records"),
+            ("run {X 1}*99999999999999999999999", "line 1: '99999999999999999999999' is no count"),
+            ("run {X 1}*1500 {X 1}*2", "line 1: 2 records, where at most 1 are of use"),
         ] {
             assert!(expand(text).unwrap_err().starts_with(error), "{text}");
         }
+        assert!(expand("run {X 1}*1501").is_ok());
     }
 }

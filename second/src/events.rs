@@ -1,34 +1,58 @@
 //! The eight-byte event record and the numbers of the events.
 
+/// The type of the two SYN events.
 pub const EV_SYN: u16 = 0;
+/// The type of the five ABS_MT events.
 pub const EV_ABS: u16 = 3;
 
+/// Ends the events of a frame.
 pub const SYN_REPORT: u16 = 0;
+/// Events were lost.
 pub const SYN_DROPPED: u16 = 3;
 
+/// Which slot the next numbers are for.
 pub const ABS_MT_SLOT: u16 = 0x2f;
+/// A number of the current slot, as the three after it.
 pub const ABS_MT_POSITION_X: u16 = 0x35;
 pub const ABS_MT_POSITION_Y: u16 = 0x36;
 pub const ABS_MT_TRACKING_ID: u16 = 0x39;
 pub const ABS_MT_PRESSURE: u16 = 0x3a;
 
+/// The types and codes that are listed; all others are skipped.
+pub const LISTED: [(u16, u16); 7] = [
+    (EV_SYN, SYN_REPORT),
+    (EV_SYN, SYN_DROPPED),
+    (EV_ABS, ABS_MT_SLOT),
+    (EV_ABS, ABS_MT_POSITION_X),
+    (EV_ABS, ABS_MT_POSITION_Y),
+    (EV_ABS, ABS_MT_TRACKING_ID),
+    (EV_ABS, ABS_MT_PRESSURE),
+];
+
+/// The bytes of a record.
 pub const RECORD: usize = 8;
 
+/// One event.
 #[derive(Clone, Copy, PartialEq, Eq, Debug)]
 pub struct Event {
+    /// The event's type, which is no name in Rust.
     pub kind: u16,
     pub code: u16,
     pub value: i32,
 }
 
 impl Event {
+    /// SYN_REPORT as a writer sends it.
     pub const REPORT: Event = Event { kind: EV_SYN, code: SYN_REPORT, value: 0 };
+    /// SYN_DROPPED as the programs send it.
     pub const DROPPED: Event = Event { kind: EV_SYN, code: SYN_DROPPED, value: 0 };
 
+    /// An event of the type EV_ABS.
     pub fn abs(code: u16, value: i32) -> Event {
         Event { kind: EV_ABS, code, value }
     }
 
+    /// The event that a record is.
     pub fn from_bytes(bytes: [u8; RECORD]) -> Event {
         let [k0, k1, c0, c1, v0, v1, v2, v3] = bytes;
         Event {
@@ -38,6 +62,7 @@ impl Event {
         }
     }
 
+    /// Its record, little-endian.
     pub fn to_bytes(self) -> [u8; RECORD] {
         let [k0, k1] = self.kind.to_le_bytes();
         let [c0, c1] = self.code.to_le_bytes();

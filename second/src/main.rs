@@ -6,9 +6,10 @@ use std::fs::{self, File};
 use std::io::{self, Read, Write};
 use std::os::fd::AsFd;
 use std::os::unix::ffi::OsStrExt;
+use std::path::Path;
 use std::process::ExitCode;
 
-use second::script::{answer_line, is_passed_over, Call};
+use second::script::{answer_line, is_passed_over, lines_of, Call};
 use second::streams::{text, Status};
 use second::tally::Tally;
 use second::{brief, maker, noise, programs, records, smaller};
@@ -25,6 +26,8 @@ second cases                           the named cases, as a script
 second records encode < TEXT           a program's input from readable text
 second records decode [frames] < BYTES the text of such an input
 second noise PROGRAM SEED INDEX        one random input for a program
+second noises PROGRAM SEED FIRST COUNT FOLDER
+                                       COUNT of them from FIRST on, with what the program answers, as files
 second show_table | write_frames | show_pod | drive < BYTES
                                        the program of that name";
 
@@ -55,7 +58,7 @@ fn main() -> ExitCode {
     let texts: Vec<Cow<str>> = arguments.iter().map(|argument| argument.to_string_lossy()).collect();
     let words: Vec<&str> = texts.iter().map(|text| &**text).collect();
     let status = match words[..] {
-        [program @ ("show_table" | "write_frames" | "show_pod" | "drive"), _, ..] => too_many(program, &arguments[1]),
+        [program, _, ..] if programs::NAMES.contains(&program) => too_many(program, &arguments[1]),
         _ => run(&words).unwrap_or_else(status_of),
     };
     ExitCode::from(status.number())
@@ -89,13 +92,13 @@ fn say(words: &[u8]) {
 
 fn run(words: &[&str]) -> Result<Status, Failure> {
     match words {
-        ["show_table"] => filter(programs::show_table),
-        ["write_frames"] => filter(programs::write_frames),
-        ["show_pod"] => filter(programs::show_pod),
-        ["drive"] | ["answer"] => filter(programs::drive),
+        ["answer"] => filter(programs::drive),
         ["records", "encode"] => filter(records::encode),
         ["records", "decode"] => filter(|input, out, err| records::decode(input, out, err, false)),
         ["records", "decode", "frames"] => filter(|input, out, err| records::decode(input, out, err, true)),
+        [program] if programs::NAMES.contains(program) => {
+            filter(|input, out, err| programs::run(program, input, out, err).unwrap_or(Status::Failed))
+        }
         _ => {
             let mut out = io::BufWriter::new(io::stdout().lock());
             print(words, &mut out)?;
@@ -121,14 +124,14 @@ fn print(words: &[&str], out: &mut impl Write) -> Result<(), Failure> {
         ["differ", script, answers] => differ(&file(script)?, &file(answers)?, out)?,
         ["smaller"] => {
             let script = input()?;
-            let line = script.lines().find(|line| !is_passed_over(line.as_bytes())).unwrap_or("");
+            let line = lines_of(&script).find(|line| !is_passed_over(line.as_bytes())).unwrap_or("");
             // A line that is no call has nothing to make smaller.
             for call in Call::parse(line.as_bytes()).iter().flat_map(smaller::smaller) {
                 writeln!(out, "{}", call.line())?;
             }
         }
         ["brief"] => {
-            for line in input()?.lines() {
+            for line in lines_of(&input()?) {
                 match Call::parse(line.as_bytes()) {
                     Some(call) if !is_passed_over(line.as_bytes()) => writeln!(out, "{}", brief::shorten(&call))?,
                     _ => writeln!(out, "{line}")?,
@@ -141,8 +144,10 @@ fn print(words: &[&str], out: &mut impl Write) -> Result<(), Failure> {
             out.write_all(script.as_bytes())?;
         }
         ["noise", program, seed, index] => {
-            let bytes = noise::noise(program, number(seed)?, number(index)?);
-            out.write_all(&bytes.ok_or_else(|| format!("no program {program}"))?)?;
+            out.write_all(&noise_for(program, number(seed)?, number(index)?)?)?;
+        }
+        ["noises", program, seed, first, count, folder] => {
+            noises(program, number(seed)?, number(first)?, number(count)?, Path::new(folder))?;
         }
         _ => return Err(Failure::Usage),
     }
@@ -153,6 +158,28 @@ fn script(rounds: u64, seed: u64, out: &mut impl Write) -> io::Result<()> {
     writeln!(out, "# second script {rounds} {seed}")?;
     let mut maker = maker::Maker::new(seed);
     (0..rounds).try_for_each(|_| out.write_all(maker.lines().as_bytes()))
+}
+
+fn noise_for(program: &str, seed: u64, index: u64) -> Result<Vec<u8>, Failure> {
+    noise::noise(program, seed, index).ok_or_else(|| Failure::Words(format!("no program {program}")))
+}
+
+/// Of each input FOLDER/INDEX.in, and what is to be seen of the program: .out, .err and .status. The input is there before it is answered, and the status comes last: where this crashes, they tell by what.
+fn noises(program: &str, seed: u64, first: u64, count: u64, folder: &Path) -> Result<(), Failure> {
+    for index in first..first.saturating_add(count) {
+        let keep = |part: &str, bytes: &[u8]| {
+            let name = folder.join(format!("{index}.{part}"));
+            fs::write(&name, bytes).map_err(|error| Failure::Words(format!("{}: {error}", name.display())))
+        };
+        let input = noise_for(program, seed, index)?;
+        keep("in", &input)?;
+        let (mut out, mut err) = (Vec::new(), Vec::new());
+        let status = programs::run(program, &input[..], &mut out, &mut err).unwrap_or(Status::Failed);
+        keep("out", &out)?;
+        keep("err", &err)?;
+        keep("status", format!("{}\n", status.number()).as_bytes())?;
+    }
+    Ok(())
 }
 
 fn tally(script: &str, answers: &str, out: &mut impl Write) -> Result<(), Failure> {
@@ -168,10 +195,10 @@ fn tally(script: &str, answers: &str, out: &mut impl Write) -> Result<(), Failur
 
 /// The first call whose answer in the file is not ours: its number, comment, line, and both answers, one a line.
 fn differ(script: &str, answers: &str, out: &mut impl Write) -> Result<(), Failure> {
-    let mut answers = answers.lines();
+    let mut answers = lines_of(answers);
     let mut calls = 0;
     let mut comment = "#";
-    for line in script.lines() {
+    for line in lines_of(script) {
         if is_passed_over(line.as_bytes()) {
             comment = if line.is_empty() { comment } else { line };
             continue;

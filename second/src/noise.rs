@@ -3,14 +3,14 @@
 use crate::events::Event;
 use crate::maker::Maker;
 use crate::pod::Pod;
+use crate::programs::HEADER;
 use crate::reader::Reader;
 use crate::table::{Setup, LARGEST_POSITION, LARGEST_PRESSURE, SLOTS};
-use crate::writer::Writer;
+use crate::writer::{Writer, LARGEST_FRAME};
 
 /// Every other input is short, one length after the other, so that every cut of the first records is tried; between them come long ones.
 const EACH_LENGTH: u64 = 80;
 const LONGEST: u64 = 5_000;
-const HEADER: usize = 16;
 
 /// Bytes that a script is made of.
 const SCRIPT_BYTES: &[u8] = b"0123456789-  \n#fnrolagwsp";
@@ -132,7 +132,7 @@ fn frames(maker: &mut Maker, setup: Setup, length: usize) -> Vec<u8> {
             frame[i] = maker.random.word() as i32;
         }
         // A refused frame leaves the writer as it is, in the program too.
-        let _ = writer.write(&frame, &mut [0; 640], 0);
+        let _ = writer.write(&frame, &mut [0; LARGEST_FRAME], 0);
         bytes.extend(frame.iter().flat_map(|number| number.to_le_bytes()));
     }
     bytes
@@ -182,10 +182,11 @@ fn damaged(maker: &mut Maker) -> Vec<u8> {
 #[cfg(test)]
 mod tests {
     use super::*;
+    use crate::programs::NAMES;
 
     #[test]
     fn lengths_and_names() {
-        for program in ["show_table", "write_frames", "show_pod", "drive"] {
+        for program in NAMES {
             let lengths: Vec<u64> =
                 (0..8 * EACH_LENGTH).map(|index| noise(program, 5, index).unwrap().len() as u64).collect();
             for length in 0..EACH_LENGTH {

@@ -2,18 +2,24 @@
 
 use crate::refusal::Refusal;
 
-#[derive(Clone, Copy, PartialEq, Eq, Debug, Default)]
+/// How many bytes of an unfinished report can be held: one less than the longest has.
+pub const PLACES: usize = 5;
+
+/// A pod's state, well formed or not: the unfinished report.
+#[derive(Clone, Copy, PartialEq, Eq, Debug)]
 pub struct Pod {
     pub held: u64,
-    pub bytes: [u8; 5],
+    pub bytes: [u8; PLACES],
 }
 
+/// What a stick byte tells.
 #[derive(Clone, Copy, PartialEq, Eq, Debug)]
 pub struct Stick {
     pub trigger: bool,
     pub position: u8,
 }
 
+/// The answer to one byte.
 #[derive(Clone, Copy, PartialEq, Eq, Debug)]
 pub enum Report {
     More,
@@ -38,8 +44,10 @@ pub fn length(first: u8) -> u64 {
 }
 
 impl Pod {
-    pub const FRESH: Pod = Pod { held: 0, bytes: [0; 5] };
+    /// The state at the start and after each whole report.
+    pub const FRESH: Pod = Pod { held: 0, bytes: [0; PLACES] };
 
+    /// Whether [`Pod::take`] takes this state; refusal 2 where it is not.
     pub fn is_well_formed(&self) -> bool {
         if self.held == 0 {
             return *self == Pod::FRESH;
@@ -48,6 +56,7 @@ impl Pod {
         self.held < length(self.bytes[0]) && self.bytes[self.held as usize..].iter().all(|b| *b == 0)
     }
 
+    /// Takes the next byte; refusal 2.
     pub fn take(&mut self, byte: u8) -> Result<Report, Refusal> {
         if !self.is_well_formed() {
             return Err(Refusal::State);

@@ -8,13 +8,29 @@ use crate::reader::{Mode, Reader};
 use crate::refusal::Refusal;
 use crate::script::{is_passed_over, Call, InWords, BAD_LINE, LONGEST_LINE};
 use crate::streams::{Came, Lines, Status, Streams, Words};
-use crate::table::{Setup, LARGEST_POSITION, LARGEST_PRESSURE, SLOTS};
-use crate::writer::Writer;
+use crate::table::{Setup, LARGEST_POSITION, LARGEST_PRESSURE, SLOTS, SLOT_NUMBERS};
+use crate::writer::{Writer, LARGEST_FRAME};
 
-/// The setup's bytes.
-const HEADER: usize = 16;
-/// The most that one frame can write.
-const LARGEST_FRAME: usize = 640;
+/// The bytes of a number.
+pub const NUMBER: usize = 4;
+/// The bytes of the setup: n, largest x, y and pressure.
+pub const HEADER: usize = 4 * NUMBER;
+/// The bytes that a frame has for each slot.
+pub const ROW: usize = SLOT_NUMBERS * NUMBER;
+
+/// The names that [`run`] takes.
+pub const NAMES: [&str; 4] = ["show_table", "write_frames", "show_pod", "drive"];
+
+/// Runs the program of that name; `None` for a name that is none.
+pub fn run(name: &str, input: impl Read, out: impl Write, err: impl Write) -> Option<Status> {
+    Some(match name {
+        "show_table" => show_table(input, out, err),
+        "write_frames" => write_frames(input, out, err),
+        "show_pod" => show_pod(input, out, err),
+        "drive" => drive(input, out, err),
+        _ => return None,
+    })
+}
 
 /// The setup, if the bytes are as many as it takes.
 fn header(bytes: &[u8]) -> Option<Setup> {
@@ -167,7 +183,7 @@ fn send_frames<R: Read, W: Write, E: Write>(streams: &mut Streams<R, W, E>) -> i
         streams.out.write_all(&number.to_le_bytes())?;
     }
     let mut writer = Writer::fresh(setup).expect("a setup without a wrong number is good");
-    let size = 16 * setup.slots as usize;
+    let size = ROW * setup.slots as usize;
     let mut k = 1u64;
     let ended = streams.units(size, |frames, out, words| -> io::Result<()> {
         for frame in frames.chunks_exact(size) {
@@ -196,12 +212,12 @@ fn send_frame<E: Write>(
     out: &mut impl Write,
     words: &mut Words<E>,
 ) -> io::Result<()> {
-    let mut frame = [0; 4 * SLOTS];
-    for (number, b) in frame.iter_mut().zip(bytes.chunks_exact(4)) {
+    let mut frame = [0; SLOTS * SLOT_NUMBERS];
+    for (number, b) in frame.iter_mut().zip(bytes.chunks_exact(NUMBER)) {
         *number = i32::from_le_bytes([b[0], b[1], b[2], b[3]]);
     }
     let mut buffer = [0; LARGEST_FRAME];
-    match writer.write(&frame[..bytes.len() / 4], &mut buffer, 0) {
+    match writer.write(&frame[..bytes.len() / NUMBER], &mut buffer, 0) {
         Ok(written) => out.write_all(&buffer[..written.events as usize * RECORD])?,
         Err(refusal) => refuse_frame(words, k, refusal),
     }

@@ -1,12 +1,15 @@
 //! A small seeded generator (splitmix64), so that a script is the same on every machine.
 
+/// What is left to come is settled by the number that it holds.
 pub struct Random(u64);
 
 impl Random {
+    /// The same seed gives the same numbers.
     pub fn new(seed: u64) -> Random {
         Random(seed)
     }
 
+    /// Any 64 bits.
     pub fn word(&mut self) -> u64 {
         self.0 = self.0.wrapping_add(0x9E37_79B9_7F4A_7C15);
         let mut z = self.0;
@@ -30,6 +33,7 @@ impl Random {
         self.below(times) == 0
     }
 
+    /// One of them, each as likely as the next.
     pub fn pick<T: Copy>(&mut self, of: &[T]) -> T {
         of[self.below(of.len() as u64) as usize]
     }

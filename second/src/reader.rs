@@ -4,15 +4,16 @@ use crate::events::*;
 use crate::refusal::Refusal;
 use crate::table::*;
 
-#[derive(Clone, Copy, PartialEq, Eq, Debug, Default)]
+/// Whether the shown table can be trusted, and if not, what is waited for: a report, or a load.
+#[derive(Clone, Copy, PartialEq, Eq, Debug)]
 pub enum Mode {
-    #[default]
     Following,
     Dropped,
     Stale,
 }
 
-#[derive(Clone, Copy, PartialEq, Eq, Debug, Default)]
+/// The four counts of one run.
+#[derive(Clone, Copy, PartialEq, Eq, Debug)]
 pub struct Counts {
     pub shown: u64,
     pub skipped: u64,
@@ -20,6 +21,12 @@ pub struct Counts {
     pub ignored: u64,
 }
 
+impl Counts {
+    /// Of a run that has not begun, and of one that is refused.
+    pub const ZEROS: Counts = Counts { shown: 0, skipped: 0, bad: 0, ignored: 0 };
+}
+
+/// What a question for a slot is answered.
 #[derive(Clone, Copy, PartialEq, Eq, Debug)]
 pub enum Asked {
     Contact(Slot),
@@ -28,8 +35,8 @@ pub enum Asked {
     NoSuchSlot,
 }
 
-/// The default is not a fresh state but the zeros that stand in an answer with refusal 1.
-#[derive(Clone, PartialEq, Eq, Debug, Default)]
+/// A reader's state, well formed or not.
+#[derive(Clone, PartialEq, Eq, Debug)]
 pub struct Reader {
     pub setup: Setup,
     pub current: SlotNumber,
@@ -39,6 +46,16 @@ pub struct Reader {
 }
 
 impl Reader {
+    /// The state's place in an answer with refusal 1; it is not well formed.
+    pub const ZEROS: Reader = Reader {
+        setup: Setup::ZEROS,
+        current: SlotNumber(0),
+        mode: Mode::Following,
+        shown: ZERO_TABLE,
+        pending: ZERO_TABLE,
+    };
+
+    /// The state at the start; refusal 1.
     pub fn fresh(setup: Setup) -> Result<Reader, Refusal> {
         if !setup.is_good() {
             return Err(Refusal::Setup);
@@ -46,6 +63,7 @@ impl Reader {
         Ok(Reader { setup, current: SlotNumber(0), mode: Mode::Following, shown: EMPTY, pending: EMPTY })
     }
 
+    /// Whether any call takes this state; refusal 2 where it is not.
     pub fn is_well_formed(&self) -> bool {
         self.setup.is_good()
             && self.current.0 < self.setup.slots
@@ -57,6 +75,7 @@ impl Reader {
             }
     }
 
+    /// Reads the records one after the other; refusals 2 and 6.
     pub fn run(&mut self, records: &[u8]) -> Result<Counts, Refusal> {
         if !self.is_well_formed() {
             return Err(Refusal::State);
@@ -64,22 +83,24 @@ impl Reader {
         if records.len() % RECORD != 0 {
             return Err(Refusal::Ragged);
         }
-        let mut counts = Counts::default();
+        let mut counts = Counts::ZEROS;
         for event in events(records) {
             self.step(event, &mut counts);
         }
         Ok(counts)
     }
 
+    /// Reads one record by itself; refusal 2.
     pub fn one(&mut self, event: Event) -> Result<Counts, Refusal> {
         if !self.is_well_formed() {
             return Err(Refusal::State);
         }
-        let mut counts = Counts::default();
+        let mut counts = Counts::ZEROS;
         self.step(event, &mut counts);
         Ok(counts)
     }
 
+    /// Takes the panel's whole table and current slot, after a loss; refusals 2, 7 and 8.
     pub fn load(&mut self, image: &[i32], current: SlotNumber) -> Result<(), Refusal> {
         if !self.is_well_formed() {
             return Err(Refusal::State);
@@ -98,6 +119,7 @@ impl Reader {
         Ok(())
     }
 
+    /// What is known of a slot; refusal 2.
     pub fn ask(&self, slot: SlotNumber) -> Result<Asked, Refusal> {
         if !self.is_well_formed() {
             return Err(Refusal::State);
@@ -172,11 +194,11 @@ impl Reader {
     }
 
     fn image_table(&self, image: &[i32]) -> Option<Table> {
-        if image.len() as u64 != 4 * self.setup.slots {
+        if image.len() as u64 != SLOT_NUMBERS as u64 * self.setup.slots {
             return None;
         }
         let mut table = EMPTY;
-        for (slot, numbers) in table.iter_mut().zip(image.chunks_exact(4)) {
+        for (slot, numbers) in table.iter_mut().zip(image.chunks_exact(SLOT_NUMBERS)) {
             // An unused slot's numbers are judged too: they become the table's.
             *slot = Slot {
                 id: id_in_range(numbers[0])?,

@@ -4,10 +4,10 @@ use std::fmt;
 use std::io::{self, Read, Write};
 
 use crate::events::*;
+use crate::programs::{HEADER, NUMBER, ROW};
 use crate::streams::{Came, Lines, Status, Streams};
-use crate::table::SLOTS;
+use crate::table::{SLOTS, SLOT_NUMBERS};
 
-const HEADER: usize = 16;
 /// Bytes that a line of `BYTES` has at most.
 const BYTES_A_LINE: usize = 16;
 /// A longer line of text is refused rather than held.
@@ -179,8 +179,8 @@ impl Encoder {
         }
         self.purpose = Purpose::Frames;
         let good = match self.slots {
-            Some(n) if (1..=SLOTS as u32).contains(&n) => words.len() == 4 * n as usize,
-            _ => words.len() % 4 == 0,
+            Some(n) if (1..=SLOTS as u32).contains(&n) => words.len() == SLOT_NUMBERS * n as usize,
+            _ => words.len() % SLOT_NUMBERS == 0,
         };
         if !good {
             return Err("FRAME takes four numbers (kind, x, y, pressure) for each of SETUP's slots".to_string());
@@ -218,7 +218,7 @@ fn decode_units<R: Read, W: Write, E: Write>(streams: &mut Streams<R, W, E>, fra
         if !frames {
             streams.units(RECORD, |records, out, _| put_events(out, records))?;
         } else if (1..=SLOTS).contains(&n) {
-            let size = 16 * n;
+            let size = ROW * n;
             streams.units(size, |run, out, _| put_frames(out, run, size))?;
         } else {
             streams.units(BYTES_A_LINE, |bytes, out, _| put_bytes(out, bytes))?;
@@ -227,8 +227,8 @@ fn decode_units<R: Read, W: Write, E: Write>(streams: &mut Streams<R, W, E>, fra
     put_bytes(&mut streams.out, streams.input.held())
 }
 
-fn words(bytes: &[u8]) -> impl Iterator<Item = [u8; 4]> + '_ {
-    bytes.chunks_exact(4).map(|b| [b[0], b[1], b[2], b[3]])
+fn words(bytes: &[u8]) -> impl Iterator<Item = [u8; NUMBER]> + '_ {
+    bytes.chunks_exact(NUMBER).map(|b| [b[0], b[1], b[2], b[3]])
 }
 
 fn put_events(out: &mut impl Write, records: &[u8]) -> io::Result<()> {

@@ -1,5 +1,6 @@
 //! The eight ways to say no, with document 01's numbers.
 
+/// Why a call was not made; the first that fits in rising number.
 #[derive(Clone, Copy, PartialEq, Eq, Debug)]
 pub enum Refusal {
     Setup,
@@ -13,6 +14,7 @@ pub enum Refusal {
 }
 
 impl Refusal {
+    /// Document 01's number of it.
     pub fn number(self) -> u8 {
         match self {
             Refusal::Setup => 1,
@@ -26,6 +28,7 @@ impl Refusal {
         }
     }
 
+    /// The bytes that a frame needs, told with NO ROOM alone.
     pub fn need(self) -> u64 {
         match self {
             Refusal::NoRoom { need } => need,

@@ -3,16 +3,35 @@
 use std::fmt;
 
 use crate::events::Event;
-use crate::pod::{Pod, Report};
+use crate::pod::{Pod, Report, PLACES};
 use crate::reader::{Asked, Counts, Mode, Reader};
 use crate::refusal::Refusal;
-use crate::table::{Setup, Slot, SlotNumber, Table, TrackingId, SLOTS};
+use crate::table::{Setup, Slot, SlotNumber, Table, TrackingId, EMPTY, SLOTS, SLOT_NUMBERS};
 use crate::writer::{Writer, Written};
 
+/// The bytes that a line has at most, without its newline.
 pub const LONGEST_LINE: usize = 65_535;
+/// The numbers that a line has at most.
 pub const MOST_NUMBERS: usize = 12_000;
+/// The bytes that the buffer of a `write` has at most.
 pub const LARGEST_BUFFER: usize = 4_096;
+/// The answer to a line that is no call.
 pub const BAD_LINE: &str = "bad line";
+
+// How many numbers each part has. A state stands behind one word, the call's name or the verdict, so its number i is the line's word i.
+
+/// n and the three largest values.
+pub const SETUP_NUMBERS: usize = 4;
+/// What comes before a state's first table: the setup, the current slot, and the mode or the counter.
+pub const HEAD_NUMBERS: usize = SETUP_NUMBERS + 2;
+/// The sixteen records.
+pub const TABLE_NUMBERS: usize = SLOTS * SLOT_NUMBERS;
+/// The head and both tables.
+pub const READER_NUMBERS: usize = HEAD_NUMBERS + 2 * TABLE_NUMBERS;
+/// The head and the table.
+pub const WRITER_NUMBERS: usize = HEAD_NUMBERS + TABLE_NUMBERS;
+/// How many bytes are held, and the places.
+pub const POD_NUMBERS: usize = 1 + PLACES;
 
 /// One line of a script, with the whole state that it carries.
 #[derive(Clone, PartialEq, Eq, Debug)]
@@ -32,6 +51,11 @@ pub enum Call {
 /// The marks that a buffer holds before a `write`.
 pub fn marks(size: usize) -> Vec<u8> {
     (0..size).map(|i| (37 * i + 11) as u8).collect()
+}
+
+/// The lines of a script or of answers. A carriage return is part of its line, which is then another one.
+pub fn lines_of(text: &str) -> impl Iterator<Item = &str> {
+    text.split_terminator('\n')
 }
 
 /// True for a line that is passed over and answered by nothing.
@@ -147,26 +171,26 @@ impl Call {
             Call::Fresh(setup) => {
                 let made = Reader::fresh(*setup);
                 line.verdict(&made);
-                line.reader(&made.unwrap_or_default());
+                line.reader(&made.unwrap_or(Reader::ZEROS));
             }
             Call::New(setup) => {
                 let made = Writer::fresh(*setup);
                 line.verdict(&made);
-                line.writer(&made.unwrap_or_default());
+                line.writer(&made.unwrap_or(Writer::ZEROS));
             }
             Call::Run { reader, bytes } => {
                 let mut reader = reader.clone();
                 let counts = reader.run(bytes);
                 line.verdict(&counts);
                 line.reader(&reader);
-                line.counts(counts.unwrap_or_default());
+                line.counts(counts.unwrap_or(Counts::ZEROS));
             }
             Call::One { reader, event } => {
                 let mut reader = reader.clone();
                 let counts = reader.one(*event);
                 line.verdict(&counts);
                 line.reader(&reader);
-                line.counts(counts.unwrap_or_default());
+                line.counts(counts.unwrap_or(Counts::ZEROS));
             }
             Call::Load { reader, current, image } => {
                 let mut reader = reader.clone();
@@ -190,7 +214,7 @@ impl Call {
                 let written = writer.write(frame, &mut buffer, *position);
                 line.verdict(&written);
                 line.writer(&writer);
-                let Written { events, changed } = written.unwrap_or_default();
+                let Written { events, changed } = written.unwrap_or(Written::ZEROS);
                 line.put(events);
                 line.put(changed);
                 line.put(written.err().map_or(0, Refusal::need));
@@ -272,7 +296,7 @@ impl Numbers {
     }
 
     fn table(&mut self) -> Option<Table> {
-        let mut table = [Slot::default(); SLOTS];
+        let mut table = EMPTY;
         for slot in &mut table {
             *slot = Slot { id: TrackingId(self.one()?), x: self.one()?, y: self.one()?, pressure: self.one()? };
         }
@@ -304,7 +328,7 @@ impl Numbers {
     }
 
     fn pod(&mut self) -> Option<Pod> {
-        let mut pod = Pod { held: self.one()?, bytes: [0; 5] };
+        let mut pod = Pod { held: self.one()?, bytes: [0; PLACES] };
         for byte in &mut pod.bytes {
             *byte = self.one()?;
         }
@@ -412,9 +436,16 @@ mod tests {
     }
 
     #[test]
+    fn a_carriage_return_is_part_of_its_line() {
+        assert_eq!(lines_of("start\r\n\nstart").collect::<Vec<_>>(), ["start\r", "", "start"]);
+        assert_eq!(lines_of("").count(), 0);
+        assert_eq!(answer("start\r"), BAD_LINE);
+    }
+
+    #[test]
     fn a_refused_setup_leaves_zeros() {
-        assert_eq!(answer("new 0 1 1 1"), format!("1{}", " 0".repeat(70)));
-        assert_eq!(answer("fresh 17 1 1 1"), format!("1{}", " 0".repeat(134)));
+        assert_eq!(answer("new 0 1 1 1"), format!("1{}", " 0".repeat(WRITER_NUMBERS)));
+        assert_eq!(answer("fresh 17 1 1 1"), format!("1{}", " 0".repeat(READER_NUMBERS)));
     }
 
     #[test]
@@ -491,7 +522,7 @@ mod tests {
         assert_eq!(answer("pod 0 0 0 0 0 0 1"), "0 0 0 0 0 0 down 1");
         assert_eq!(answer("pod 1 255 0 0 0 0 16 245"), "0 0 0 0 0 0 bad report / 0 0 0 0 0 0 up 117");
         assert_eq!(answer("start"), "0 0 0 0 0 0");
-        let full = 12_000 - 134;
+        let full = MOST_NUMBERS - READER_NUMBERS;
         let table = UNUSED.repeat(16);
         assert!(answer(&format!("run 1 9 9 9 0 0 {table}{table}{}", "0 ".repeat(full))).starts_with("6 "));
     }

@@ -3,7 +3,7 @@
 use crate::events::{events, Event, ABS_MT_SLOT, EV_ABS, RECORD};
 use crate::reader::{Mode, Reader};
 use crate::script::Call;
-use crate::table::{Setup, Slot, SlotNumber, Table, SLOTS};
+use crate::table::{Setup, Slot, SlotNumber, Table, SLOTS, SLOT_NUMBERS};
 
 /// Calls that are smaller than this one, the smallest first; which of them still differ is for the caller to find out.
 /// Each keeps the verdict, or a frame sent wrongly would end as one for which there is no room.
@@ -134,10 +134,10 @@ fn candidates(call: &Call, give: &mut dyn FnMut(Call)) {
                 give(Call::Write { writer, position: *position, size: *size, frame: numbers_without(frame, s) });
             }
             // A slot unused in table and frame alike stays quiet; in one of them alone it would begin or lift.
-            for s in 0..SLOTS.min(frame.len() / 4) {
+            for s in 0..SLOTS.min(frame.len() / SLOT_NUMBERS) {
                 let (mut writer, mut frame) = (writer.clone(), frame.clone());
                 writer.table[s] = Slot::UNUSED;
-                frame[4 * s..4 * s + 4].fill(0);
+                frame[row(s)].fill(0);
                 give(Call::Write { writer, position: *position, size: *size, frame });
             }
             smaller_tables(&writer.table, &mut |table| {
@@ -176,9 +176,9 @@ fn parts(length: usize, part: usize) -> Vec<std::ops::Range<usize>> {
 
 /// One slot's four numbers plain, or one number 0, of a frame or an image.
 fn smaller_numbers(numbers: &[i32], plain: i32, give: &mut dyn FnMut(Vec<i32>)) {
-    for s in 0..numbers.len() / 4 {
+    for s in 0..numbers.len() / SLOT_NUMBERS {
         let mut fewer = numbers.to_vec();
-        fewer[4 * s..4 * s + 4].copy_from_slice(&[plain, 0, 0, 0]);
+        fewer[row(s)].copy_from_slice(&[plain, 0, 0, 0]);
         give(fewer);
     }
     for i in 0..numbers.len() {
@@ -186,7 +186,7 @@ fn smaller_numbers(numbers: &[i32], plain: i32, give: &mut dyn FnMut(Vec<i32>)) 
         fewer[i] = 0;
         give(fewer);
     }
-    if numbers.len() % 4 != 0 || numbers.len() > 64 {
+    if numbers.len() % SLOT_NUMBERS != 0 || numbers.len() > SLOTS * SLOT_NUMBERS {
         give(numbers[..numbers.len() - 1].to_vec());
     }
 }
@@ -250,10 +250,15 @@ fn event_without(event: Event, s: usize) -> Event {
 
 fn numbers_without(numbers: &[i32], s: usize) -> Vec<i32> {
     let mut fewer = numbers.to_vec();
-    if fewer.len() >= 4 * s + 4 {
-        fewer.drain(4 * s..4 * s + 4);
+    if fewer.len() >= row(s).end {
+        fewer.drain(row(s));
     }
     fewer
+}
+
+/// Where the numbers of a slot stand in a frame or an image.
+fn row(s: usize) -> std::ops::Range<usize> {
+    SLOT_NUMBERS * s..SLOT_NUMBERS * (s + 1)
 }
 
 #[cfg(test)]
@@ -276,8 +281,7 @@ mod tests {
         };
         let mut maker = Maker::new(11);
         let mut call = loop {
-            let lines = maker.lines();
-            let line = lines.lines().nth(1).unwrap();
+            let line = maker.next_line();
             match Call::parse(line.as_bytes()) {
                 Some(call @ Call::Run { .. }) if differs(&call) && line.len() > 1500 => break call,
                 _ => {}

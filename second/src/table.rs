@@ -2,21 +2,28 @@
 
 /// How many records a table holds, whatever the panel's n.
 pub const SLOTS: usize = 16;
+/// How many numbers tell of one slot: id, x, y and pressure; in a frame the kind stands for the id.
+pub const SLOT_NUMBERS: usize = 4;
+/// The largest x and y may be this at most.
 pub const LARGEST_POSITION: u32 = 32_767;
+/// The largest pressure may be this at most.
 pub const LARGEST_PRESSURE: u32 = 255;
+/// Behind this id comes 0 again.
 pub const LARGEST_ID: u32 = 65_535;
 
 /// A slot number; its own type so that it cannot be taken for a tracking id.
-#[derive(Clone, Copy, PartialEq, Eq, Debug, Default)]
+#[derive(Clone, Copy, PartialEq, Eq, Debug)]
 pub struct SlotNumber(pub u64);
 
 /// A tracking id, -1 for unused.
-#[derive(Clone, Copy, PartialEq, Eq, Debug, Default)]
+#[derive(Clone, Copy, PartialEq, Eq, Debug)]
 pub struct TrackingId(pub i32);
 
 impl TrackingId {
+    /// No contact.
     pub const UNUSED: TrackingId = TrackingId(-1);
 
+    /// Any id but -1, good or not.
     pub fn is_live(self) -> bool {
         self != TrackingId::UNUSED
     }
@@ -26,8 +33,9 @@ impl TrackingId {
     }
 }
 
+/// What a panel is set up with.
 /// The numbers are wider than their ranges, here and in every state: a state that is not well formed must be possible, or refusal 2 could not be judged.
-#[derive(Clone, Copy, PartialEq, Eq, Debug, Default)]
+#[derive(Clone, Copy, PartialEq, Eq, Debug)]
 pub struct Setup {
     pub slots: u64,
     pub largest_x: u32,
@@ -36,6 +44,10 @@ pub struct Setup {
 }
 
 impl Setup {
+    /// The setup's place in an answer with refusal 1.
+    pub const ZEROS: Setup = Setup { slots: 0, largest_x: 0, largest_y: 0, largest_pressure: 0 };
+
+    /// Whether each number is in its range; refusal 1 where one is not.
     pub fn is_good(&self) -> bool {
         (1..=SLOTS as u64).contains(&self.slots)
             && (1..=LARGEST_POSITION).contains(&self.largest_x)
@@ -44,7 +56,8 @@ impl Setup {
     }
 }
 
-#[derive(Clone, Copy, PartialEq, Eq, Debug, Default)]
+/// One of a table's records.
+#[derive(Clone, Copy, PartialEq, Eq, Debug)]
 pub struct Slot {
     pub id: TrackingId,
     pub x: u32,
@@ -53,12 +66,18 @@ pub struct Slot {
 }
 
 impl Slot {
+    /// As every record is at the start, and those from n upward always.
     pub const UNUSED: Slot = Slot { id: TrackingId::UNUSED, x: 0, y: 0, pressure: 0 };
 }
 
+/// The sixteen records.
 pub type Table = [Slot; SLOTS];
 
+/// The table of a fresh state.
 pub const EMPTY: Table = [Slot::UNUSED; SLOTS];
+
+/// A table's place in an answer with refusal 1: no table of a state, since id 0 would be live sixteen times.
+pub const ZERO_TABLE: Table = [Slot { id: TrackingId(0), x: 0, y: 0, pressure: 0 }; SLOTS];
 
 /// Every number in its range, and the records from n upward unused. The setup must be good.
 pub fn is_good_table(setup: &Setup, table: &Table) -> bool {
@@ -71,6 +90,7 @@ pub fn is_good_table(setup: &Setup, table: &Table) -> bool {
     }) && rest.iter().all(|slot| *slot == Slot::UNUSED)
 }
 
+/// Whether no live id stands twice.
 /// Ids that count up rarely share their last six bits, so one word sieves out nearly every comparison of pairs.
 pub fn live_ids_differ(slots: &[Slot]) -> bool {
     let mut seen = 0u64;

@@ -3,7 +3,8 @@
 use std::collections::BTreeMap;
 
 use crate::maker::TRIED;
-use crate::script::{is_passed_over, BAD_LINE};
+use crate::script::{is_passed_over, lines_of, BAD_LINE, HEAD_NUMBERS, POD_NUMBERS, READER_NUMBERS, WRITER_NUMBERS};
+use crate::writer::MOST_EVENTS;
 
 /// Everything that document 01 lets a call answer, in the words of the tally.
 const EXPECTED: &[&str] = &[
@@ -80,6 +81,29 @@ const EXPECTED: &[&str] = &[
 const MODES: [&str; 3] = ["following", "dropped", "stale"];
 const COUNTS: [&str; 4] = ["tables shown", "skipped", "bad", "ignored"];
 
+/// Places in the answer to a `write`; between the two stands the number of the changed slots.
+const EVENTS: usize = WRITER_NUMBERS + 1;
+const NEED: usize = WRITER_NUMBERS + 3;
+
+/// The words of a call or an answer. What is tallied may be anything, so a word that is not there is an empty one.
+struct Words<'a>(Vec<&'a str>);
+
+impl<'a> Words<'a> {
+    fn of(text: &'a str) -> Words<'a> {
+        Words(text.split(' ').filter(|word| !word.is_empty()).collect())
+    }
+
+    fn at(&self, place: usize) -> &'a str {
+        self.0.get(place).copied().unwrap_or("")
+    }
+
+    /// The mode of the reader that stands in it.
+    fn mode(&self) -> &'static str {
+        self.at(HEAD_NUMBERS).parse().ok().and_then(|mode: usize| MODES.get(mode)).unwrap_or(&"no mode")
+    }
+}
+
+/// How often what was seen, of the answers and of what the comments say is tried.
 #[derive(Default)]
 pub struct Tally {
     calls: u64,
@@ -91,8 +115,8 @@ impl Tally {
     /// Counts a whole script with its answers.
     pub fn of(script: &str, answers: &str) -> Result<Tally, String> {
         let mut tally = Tally::default();
-        let mut answers = answers.lines();
-        for line in script.lines() {
+        let mut answers = lines_of(answers);
+        for line in lines_of(script) {
             if let Some(comment) = line.strip_prefix("# ") {
                 for tag in comment.split("; ") {
                     if TRIED.contains(&tag) {
@@ -116,10 +140,36 @@ impl Tally {
         *self.seen.entry(what).or_default() += 1;
     }
 
+    fn count(&mut self, line: &str, answer: &str) {
+        if answer == BAD_LINE {
+            return self.note(answer.to_string());
+        }
+        let (call, said) = (Words::of(line), Words::of(answer));
+        let (name, verdict) = (call.at(0), said.at(0));
+        match name {
+            "ask" if verdict == "contact" => self.note("ask contact".to_string()),
+            "ask" => self.note(format!("ask {answer}")),
+            "pod" => answer.split(" / ").for_each(|step| self.count_step(step)),
+            _ => self.note(format!("{name} {verdict}")),
+        }
+        match (name, verdict) {
+            ("load", "7") => self.note(format!("load: refused while {}", call.mode())),
+            ("ask", "unknown") => self.note(format!("ask: unknown while {}", call.mode())),
+            ("run" | "one", "0") => self.count_run(name, &call, &said),
+            ("write", "0") => self.count_written(&call, &said),
+            ("write", "5") => match said.at(NEED) {
+                "" => {}
+                "0" => self.note("write: no room, no need".to_string()),
+                _ => self.note("write: no room, a need".to_string()),
+            },
+            _ => {}
+        }
+    }
+
     /// The answer to one byte of a pod.
     fn count_step(&mut self, step: &str) {
         let said: Vec<&str> = step.split(' ').collect();
-        let words = said.get(6..).unwrap_or(&[]);
+        let words = said.get(POD_NUMBERS..).unwrap_or(&[]);
         let kept = match words.first() {
             Some(&("bad" | "stick" | "refused")) => 2,
             _ => 1,
@@ -134,53 +184,31 @@ impl Tally {
         }
     }
 
-    fn count(&mut self, line: &str, answer: &str) {
-        if answer == BAD_LINE {
-            return self.note(answer.to_string());
+    fn count_run(&mut self, name: &str, call: &Words, said: &Words) {
+        if name == "one" {
+            self.note(format!("one: {} to {}", call.mode(), said.mode()));
+        } else {
+            self.note(format!("run: ends {}", said.mode()));
         }
-        let call: Vec<&str> = line.split(' ').filter(|word| !word.is_empty()).collect();
-        let said: Vec<&str> = answer.split(' ').collect();
-        let name = call[0];
-        match name {
-            "ask" if said[0] == "contact" => self.note("ask contact".to_string()),
-            "ask" => self.note(format!("ask {answer}")),
-            "pod" => answer.split(" / ").for_each(|step| self.count_step(step)),
-            _ => self.note(format!("{name} {}", said[0])),
+        for (i, what) in COUNTS.iter().enumerate() {
+            if !matches!(said.at(READER_NUMBERS + 1 + i), "" | "0") {
+                self.note(format!("{name}: {what}"));
+            }
         }
-        let mode = |word: &str| MODES[word.parse::<usize>().unwrap_or(0).min(2)];
-        match (name, said[0]) {
-            ("load", "7") => self.note(format!("load: refused while {}", mode(call[6]))),
-            ("ask", "unknown") => self.note(format!("ask: unknown while {}", mode(call[6]))),
-            ("run" | "one", "0") if said.len() == 139 => {
-                let (before, after) = (mode(call[6]), mode(said[6]));
-                if name == "one" {
-                    self.note(format!("one: {before} to {after}"));
-                } else {
-                    self.note(format!("run: ends {after}"));
-                }
-                for (count, what) in said[135..].iter().zip(COUNTS) {
-                    if *count != "0" {
-                        self.note(format!("{name}: {what}"));
-                    }
-                }
-            }
-            ("write", "0") if said.len() > 73 => {
-                self.note(
-                    match said[71] {
-                        "0" => "write: accepted, no event",
-                        "80" => "write: accepted, 80 events",
-                        _ => "write: accepted, some events",
-                    }
-                    .to_string(),
-                );
-                let number = |word: &str| word.parse::<u64>().unwrap_or(0);
-                if number(said[6]) < number(call[6]) {
-                    self.note("write: the counter wrapped".to_string());
-                }
-            }
-            ("write", "5") if said.len() > 73 => self
-                .note(if said[73] == "0" { "write: no room, no need" } else { "write: no room, a need" }.to_string()),
-            _ => {}
+    }
+
+    fn count_written(&mut self, call: &Words, said: &Words) {
+        let events = said.at(EVENTS);
+        let how_many = match events {
+            "" => return,
+            "0" => "no event",
+            _ if events == MOST_EVENTS.to_string() => "80 events",
+            _ => "some events",
+        };
+        self.note(format!("write: accepted, {how_many}"));
+        let counter = |words: &Words| words.at(HEAD_NUMBERS).parse::<u64>().unwrap_or(0);
+        if counter(said) < counter(call) {
+            self.note("write: the counter wrapped".to_string());
         }
     }
 
@@ -249,5 +277,18 @@ mod tests {
     fn too_few_and_too_many_answers() {
         assert!(Tally::of("fresh 0 0 0 0\n", "").is_err());
         assert!(Tally::of("# nothing\n", "bad line\n").is_err());
+    }
+
+    /// A library that is wrong may answer anything, cut or long.
+    #[test]
+    fn any_line_with_any_answer_is_counted() {
+        let names = ["fresh", "new", "run", "one", "load", "ask", "good", "write", "start", "pod", "  ", "stop"];
+        let answers = ["", " ", "0", "5", "7", "unknown", "contact", "0 0 0 0 0 0 relative", " / ", "bad line", "-1 x"];
+        for name in names {
+            for answer in answers {
+                let tally = Tally::of(&format!("{name}\n"), &format!("{answer}\n")).unwrap();
+                assert!(tally.report().starts_with("1 calls"), "{name}, {answer}");
+            }
+        }
     }
 }

@@ -4,8 +4,13 @@ use crate::events::*;
 use crate::refusal::Refusal;
 use crate::table::*;
 
-/// The default is not a fresh state but the zeros that stand in an answer with refusal 1.
-#[derive(Clone, PartialEq, Eq, Debug, Default)]
+/// The most events of a frame: every number of every slot, a SLOT for each but the current one, and the report.
+pub const MOST_EVENTS: usize = SLOTS * SLOT_NUMBERS + (SLOTS - 1) + 1;
+/// The most bytes that a frame needs.
+pub const LARGEST_FRAME: usize = MOST_EVENTS * RECORD;
+
+/// A writer's state, well formed or not.
+#[derive(Clone, PartialEq, Eq, Debug)]
 pub struct Writer {
     pub setup: Setup,
     pub current: SlotNumber,
@@ -13,11 +18,17 @@ pub struct Writer {
     pub table: Table,
 }
 
-#[derive(Clone, Copy, PartialEq, Eq, Debug, Default)]
+/// What was sent of a frame.
+#[derive(Clone, Copy, PartialEq, Eq, Debug)]
 pub struct Written {
     pub events: u32,
     /// Bit s for slot s.
     pub changed: u16,
+}
+
+impl Written {
+    /// Of a frame that is refused.
+    pub const ZEROS: Written = Written { events: 0, changed: 0 };
 }
 
 /// What a good frame asks for; nothing of the state moves before there is room for it.
@@ -28,6 +39,10 @@ struct Plan {
 }
 
 impl Writer {
+    /// The state's place in an answer with refusal 1; it is not well formed.
+    pub const ZEROS: Writer = Writer { setup: Setup::ZEROS, current: SlotNumber(0), counter: 0, table: ZERO_TABLE };
+
+    /// The state at the start; refusal 1.
     pub fn fresh(setup: Setup) -> Result<Writer, Refusal> {
         if !setup.is_good() {
             return Err(Refusal::Setup);
@@ -35,6 +50,7 @@ impl Writer {
         Ok(Writer { setup, current: SlotNumber(0), counter: 0, table: EMPTY })
     }
 
+    /// Whether [`Writer::write`] takes this state; refusal 2 where it is not.
     pub fn is_well_formed(&self) -> bool {
         self.setup.is_good()
             && self.current.0 < self.setup.slots
@@ -43,11 +59,12 @@ impl Writer {
             && live_ids_differ(&self.table)
     }
 
+    /// Sends what a frame changes as records into the buffer, from the position on; refusals 2 to 5.
     pub fn write(&mut self, frame: &[i32], buffer: &mut [u8], position: u64) -> Result<Written, Refusal> {
         if !self.is_well_formed() {
             return Err(Refusal::State);
         }
-        if frame.len() as u64 != 4 * self.setup.slots {
+        if frame.len() as u64 != SLOT_NUMBERS as u64 * self.setup.slots {
             return Err(Refusal::Frame);
         }
         let plan = self.plan(frame).ok_or(Refusal::Value)?;
@@ -69,7 +86,7 @@ impl Writer {
         let mut counter = self.counter;
         let mut changed = 0u16;
         let mut numbers = 0;
-        for (s, wanted) in frame.chunks_exact(4).enumerate() {
+        for (s, wanted) in frame.chunks_exact(SLOT_NUMBERS).enumerate() {
             let old = self.table[s];
             let new = match wanted[0] {
                 0 => Slot { id: TrackingId::UNUSED, ..old },

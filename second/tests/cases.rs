@@ -1,7 +1,7 @@
 //! The named cases: each is a call, each has its name, and the rows of the sheet follow from each other as document 01 says.
 
 use second::brief::expand;
-use second::script::{answer_line, is_passed_over, Call, BAD_LINE};
+use second::script::{answer_line, is_passed_over, Call, BAD_LINE, WRITER_NUMBERS};
 
 const CASES: &str = include_str!("../cases.txt");
 
@@ -48,7 +48,7 @@ fn p2_to_p7_follow_the_row_before() {
         let Some(Call::Write { .. }) = Call::parse(row.as_bytes()) else {
             panic!("{row}");
         };
-        let state = |words: &str| words.split(' ').skip(1).take(70).collect::<Vec<_>>().join(" ");
+        let state = |words: &str| words.split(' ').skip(1).take(WRITER_NUMBERS).collect::<Vec<_>>().join(" ");
         if let Some(before) = before {
             assert_eq!(state(row), before);
         }

@@ -8,11 +8,11 @@ use second::maker::Maker;
 use second::reader::{Mode, Reader};
 use second::script::Call;
 use second::table::{Slot, TrackingId};
-use second::writer::Writer;
+use second::writer::{Writer, LARGEST_FRAME, MOST_EVENTS};
 
 fn calls(seed: u64, count: usize) -> Vec<Call> {
     let mut maker = Maker::new(seed);
-    (0..count).filter_map(|_| Call::parse(maker.lines().lines().nth(1).unwrap().as_bytes())).collect()
+    (0..count).filter_map(|_| Call::parse(maker.next_line().as_bytes())).collect()
 }
 
 /// The table that a frame asks for but for ids, said the slow way.
@@ -131,7 +131,8 @@ fn all_sixteen_slots_land_in_eighty_events() {
     let setup = common::panel(16);
     let mut writer = Writer::fresh(setup).unwrap();
     let frame = [1, 1, 1, 1].repeat(16);
-    let mut buffer = [0; 640];
+    let mut buffer = [0; LARGEST_FRAME];
+    assert_eq!(MOST_EVENTS, 80);
     assert_eq!(writer.write(&frame, &mut buffer, 0).unwrap().events, 80);
     let mut reader = Reader::fresh(setup).unwrap();
     reader.run(&buffer).unwrap();

@@ -5,7 +5,7 @@ mod common;
 use common::*;
 use second::events::Event;
 use second::pod::{Pod, Report};
-use second::reader::{Asked, Mode, Reader};
+use second::reader::{Asked, Counts, Mode, Reader};
 use second::refusal::Refusal;
 use second::table::{Setup, SlotNumber, TrackingId};
 use second::writer::Writer;
@@ -87,7 +87,7 @@ fn a_reader_that_is_not_well_formed() {
     }
     let mut reader = any_reader(Mode::Following);
     reader.pending[0].id = TrackingId(1);
-    assert_eq!(reader.run(&[]), Ok(Default::default()), "pending ids may repeat");
+    assert_eq!(reader.run(&[]), Ok(Counts::ZEROS), "pending ids may repeat");
 }
 
 #[test]
@@ -225,7 +225,8 @@ fn all_first_bytes() {
 fn the_zeros_of_refusal_1() {
     let bad = Setup { slots: 0, ..panel(1) };
     assert_eq!(Reader::fresh(bad), Err(Refusal::Setup));
-    assert_eq!(Reader::default().mode, Mode::Following);
-    assert_eq!(Reader::default().shown[3], slot(0, 0, 0, 0));
-    assert_eq!(Writer::default().table[3], slot(0, 0, 0, 0));
+    assert_eq!(Reader::ZEROS.mode, Mode::Following);
+    assert_eq!(Reader::ZEROS.shown[3], slot(0, 0, 0, 0));
+    assert_eq!(Writer::ZEROS.table[3], slot(0, 0, 0, 0));
+    assert!(!Reader::ZEROS.is_well_formed() && !Writer::ZEROS.is_well_formed());
 }

@@ -1,6 +1,6 @@
 //! The built program as a process: exit status and words, with streams that the system makes fail.
 
-use std::fs::{File, OpenOptions};
+use std::fs::{self, File, OpenOptions};
 use std::io::Write;
 use std::process::{Command, Output, Stdio};
 use std::sync::{Mutex, MutexGuard, PoisonError};
@@ -111,6 +111,59 @@ fn failed_writes() {
     }
     // Standard error too.
     assert_eq!(output(second(&["show_table"]).stderr(full()), b"").status.code(), Some(2));
+}
+
+/// What `noises` keeps is what `noise` makes and the program says of it.
+#[test]
+fn many_inputs_with_their_answers() {
+    let _turn = turn();
+    let folder = std::env::temp_dir().join(format!("second-noises-{}", std::process::id()));
+    fs::create_dir(&folder).unwrap();
+    for program in ["show_table", "write_frames", "show_pod", "drive"] {
+        check(&output(&mut second(&["noises", program, "5", "30", "12", folder.to_str().unwrap()]), b""), 0, "");
+        for index in 30..42 {
+            let kept = |part: &str| fs::read(folder.join(format!("{index}.{part}"))).unwrap();
+            let input = output(&mut second(&["noise", program, "5", &index.to_string()]), b"").stdout;
+            let said = output(&mut second(&[program]), &input);
+            let status = format!("{}\n", said.status.code().unwrap()).into_bytes();
+            assert_eq!(
+                (kept("in"), kept("out"), kept("err"), kept("status")),
+                (input, said.stdout, said.stderr, status)
+            );
+        }
+        assert!(!folder.join("42.in").exists());
+    }
+    let nowhere = output(&mut second(&["noises", "drive", "5", "0", "1", "/nowhere"]), b"");
+    check(&nowhere, 1, "second: /nowhere/0.in: No such file or directory (os error 2)\n");
+    check(
+        &output(&mut second(&["noises", "bench_sheet", "5", "0", "1", "/tmp"]), b""),
+        1,
+        "second: no program bench_sheet\n",
+    );
+    fs::remove_dir_all(&folder).unwrap();
+}
+
+/// Each would be a test of nothing if `differ` took it for the same.
+#[test]
+fn answers_that_differ() {
+    let _turn = turn();
+    let folder = std::env::temp_dir().join(format!("second-differ-{}", std::process::id()));
+    fs::create_dir(&folder).unwrap();
+    let (script, answers) = (folder.join("script"), folder.join("answers"));
+    fs::write(&script, "# a pod\nstart\n\n  \n").unwrap();
+    for (said, status) in [
+        ("0 0 0 0 0 0\nbad line\n", 0),
+        ("0 0 0 0 0 0\nbad line", 0),
+        ("0 0 0 0 0 0\r\nbad line\n", 1),
+        ("0 0 0 0 0 0\nbad line \n", 1),
+        ("0 0 0 0 0 0\n", 1),
+        ("0 0 0 0 0 0\nbad line\n\n", 1),
+    ] {
+        fs::write(&answers, said).unwrap();
+        let words = ["differ", script.to_str().unwrap(), answers.to_str().unwrap()];
+        assert_eq!(output(&mut second(&words), b"").status.code(), Some(status), "{said}");
+    }
+    fs::remove_dir_all(&folder).unwrap();
 }
 
 #[test]

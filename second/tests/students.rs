@@ -124,7 +124,7 @@ fn bad_values_are_a_loss() {
     ] {
         let mut reader = following(1, &fingers);
         let counts = reader.run(&bytes(&[event, abs(ABS_MT_POSITION_X, 5), Event::REPORT]));
-        let expected = Counts { bad: 1, ignored: 2, ..Counts::default() };
+        let expected = Counts { bad: 1, ignored: 2, ..Counts::ZEROS };
         assert_eq!(counts, Ok(expected));
         assert_eq!(reader, Reader { mode: Mode::Stale, ..following(1, &fingers) });
     }

@@ -66,11 +66,10 @@ fn roomy(page: &[u8], out: Out) -> Out {
 }
 
 // The output with so many records more, which the writer put on the page.
-fn longer(page: &[u8], out: Out, count: usize) -> Out {
+fn longer(page: &[u8], out: Out, count: usize) -> Out
+    requires { ⌜ count ≤ 80 ⌝ }
+{
     let held = stream::within(out.held, page);
-    if count > (page.len() - held) / records::LENGTH {
-        return out.spoiled();
-    }
     Out {
         held: held + records::LENGTH * count,
         broken: out.broken,
@@ -79,7 +78,9 @@ fn longer(page: &[u8], out: Out, count: usize) -> Out {
 }
 
 // The output after a frame: longer by its records, or its refusal is said.
-fn answered(page: &[u8], out: Out, frame: u64, verdict: Verdict, count: usize) -> Out {
+fn answered(page: &[u8], out: Out, frame: u64, verdict: Verdict, count: usize) -> Out
+    requires { ⌜ count ≤ 80 ⌝ }
+{
     if verdict.number() != 0 {
         return warn_frame(out, frame, verdict);
     }

@@ -2,7 +2,7 @@
 
 use super::Maker;
 use crate::reader::{Mode, Reader};
-use crate::table::{Setup, Slot, SlotNumber, Table, TrackingId, LARGEST_POSITION, LARGEST_PRESSURE, SLOTS};
+use crate::table::{Setup, Slot, SlotNumber, Table, TrackingId, EMPTY, LARGEST_POSITION, LARGEST_PRESSURE, SLOTS};
 use crate::writer::Writer;
 
 impl Maker {
@@ -27,23 +27,7 @@ impl Maker {
             }
             _ => {
                 self.tag("broken: current slot");
-                let n = setup.slots;
-                current.0 = self.random.pick(&[
-                    n,
-                    n,
-                    n,
-                    n + 1,
-                    16,
-                    17,
-                    256,
-                    (1 << 16) + current.0,
-                    (1 << 32) + current.0,
-                    (1 << 63) + current.0,
-                    u64::MAX,
-                ]);
-                if current.0 < n {
-                    current.0 = n;
-                }
+                current.0 = self.bad_slot(setup.slots);
             }
         }
     }
@@ -67,7 +51,7 @@ impl Maker {
             }
             _ if n < SLOTS => {
                 self.tag(past);
-                let s = self.random.from_to(setup.slots, 15) as usize;
+                let s = self.random.from_to(setup.slots, SLOTS as u64 - 1) as usize;
                 match self.random.below(4) {
                     0 => table[s].id = TrackingId(self.random.pick(&[0, 1, 65_535, -2])),
                     1 => table[s].x = 1,
@@ -83,7 +67,13 @@ impl Maker {
         let setup = writer.setup;
         let n = setup.slots;
         match self.random.below(10) {
-            0..=3 => self.break_setup(&mut writer.setup, &mut writer.current),
+            0..=3 => {
+                self.break_setup(&mut writer.setup, &mut writer.current);
+                // Then no number is above a largest value that is too small, and nothing else is broken.
+                if self.random.once_in(4) {
+                    writer.table = EMPTY;
+                }
+            }
             4 => {
                 self.tag("broken: counter");
                 writer.counter = self.random.pick(&[65_536, 65_537, (1 << 16) + writer.counter, u32::MAX]);
@@ -119,7 +109,12 @@ impl Maker {
         let n = reader.setup.slots;
         let setup = reader.setup;
         match self.random.below(13) {
-            0..=3 => self.break_setup(&mut reader.setup, &mut reader.current),
+            0..=3 => {
+                self.break_setup(&mut reader.setup, &mut reader.current);
+                if self.random.once_in(4) {
+                    (reader.shown, reader.pending) = (EMPTY, EMPTY);
+                }
+            }
             4 if n > 1 => {
                 self.tag("broken: id repeated in the shown table");
                 self.repeat_id(&mut reader.shown, n);
@@ -193,10 +188,11 @@ impl Maker {
 
     /// Two of the first n slots, near each other or not, with one live id; n is 2 or more.
     pub(super) fn repeat_id(&mut self, table: &mut Table, n: u64) {
-        let from = self.random.below(n);
+        let any = self.random.below(n);
+        let from = self.random.pick(&[any, any, 0, n - 1]);
         let to = (from + self.random.from_to(1, n - 1)) % n;
-        if !table[from as usize].id.is_live() {
-            table[from as usize].id = TrackingId(7);
+        if !table[from as usize].id.is_live() || self.random.once_in(4) {
+            table[from as usize].id = TrackingId(self.random.pick(&[0, 7, 65_535]));
         }
         table[to as usize].id = table[from as usize].id;
     }

@@ -1,62 +1,57 @@
-//! Lines that are no call.
+//! Lines that are no call: one thing is wrong with each.
 
 use super::Maker;
-use crate::script::{Call, LONGEST_LINE, MOST_NUMBERS};
+use crate::script::{Call, HEAD_NUMBERS, POD_NUMBERS, READER_NUMBERS, SETUP_NUMBERS, WRITER_NUMBERS};
+use crate::table::{SLOTS, SLOT_NUMBERS};
+
+/// Numbers that a type cannot hold: the next ones outside, and such as would be cut to good ones.
+type Outside = &'static [&'static str];
+const NO_64_BITS: Outside = &["-1", "18446744073709551616", "18446744073709551617", "-9223372036854775809"];
+const NO_32_BITS: Outside = &["-1", "4294967296", "4294967297", "18446744073709551616"];
+const NO_SIGNED_32: Outside = &["2147483648", "-2147483649", "4294967295", "-4294967296"];
+const NO_16_BITS: Outside = &["65536", "-1", "65539"];
+const NO_BYTE: Outside = &["256", "-1", "257"];
+const NO_MODE: Outside = &["3", "3", "-1", "256", "4294967296"];
+const NO_SIZE: Outside = &["4097", "4097", "-1", "4294967296", "65536"];
 
 impl Maker {
+    /// Its comment says what is wrong with the line, and nothing of the call that it was made of.
     pub(super) fn bad_line(&mut self) -> String {
-        if self.random.once_in(8) {
-            return self.near_miss();
+        match self.random.below(24) {
+            0..=2 => return self.near_miss(),
+            3 => {
+                self.tag("line: spaces alone");
+                return " ".repeat(self.random.from_to(1, 5) as usize);
+            }
+            _ => {}
         }
         let call = match self.call() {
             // It has no number to leave out or to change.
             Call::Start => Call::Fresh(self.setup()),
             call => call,
         };
-        let line = call.line();
-        // The comment is to say what is wrong with the line, not with the call that it was made of.
         self.tags.clear();
-        let mut words: Vec<String> = line.split(' ').map(str::to_string).collect();
-        let fixed = match call {
-            Call::Start => 0,
-            Call::Fresh(_) | Call::New(_) => 4,
-            Call::Pod { .. } => 7,
-            Call::Ask { .. } | Call::Load { .. } => 135,
-            Call::One { .. } => 137,
-            Call::Run { .. } | Call::Good { .. } => 134,
-            Call::Write { .. } => 72,
-        };
-        match self.random.below(6) {
-            0 => {
+        let mut words: Vec<String> = call.line().split(' ').map(str::to_string).collect();
+        match self.random.below(19) {
+            0..=2 => {
                 self.tag("line: no such word");
-                words[0] = self.random.pick(&["zero", "q", "12", "-1", "?", "x"]).to_string();
+                words[0] = self.random.pick(&["zero", "q", "12", "-1", "?", "x", " #"]).to_string();
             }
-            1 => {
+            3..=5 => {
                 self.tag("line: too few numbers");
-                words.truncate(1 + self.random.below(fixed) as usize);
+                let fewer = self.random.below(fixed(&call) as u64) as usize;
+                words.truncate(self.random.pick(&[1 + fewer, fixed(&call)]));
             }
-            2 => {
+            6..=8 => {
                 self.tag("line: too many numbers");
-                // These four take any count.
-                if matches!(call, Call::Run { .. } | Call::Load { .. } | Call::Write { .. } | Call::Pod { .. }) {
-                    let setup = self.setup();
-                    words = Call::Fresh(setup).line().split(' ').map(str::to_string).collect();
+                if takes_any_count(&call) {
+                    words = self.random.pick(&["start", "fresh 1 2 3 4"]).split(' ').map(str::to_string).collect();
                 }
                 words.push("0".to_string());
             }
-            3 => {
+            9..=12 => {
                 self.tag("line: not a number");
-                let place = self.random.from_to(1, words.len() as u64 - 1) as usize;
-                words[place] = self.random.pick(&["x", "1x", "-", "--1", "1-", "1.5"]).to_string();
-            }
-            4 if self.random.once_in(2) => {
-                self.tag("line: too long");
-                if matches!(call, Call::Load { .. } | Call::Write { .. }) {
-                    // By its bytes alone: a line of not too many numbers.
-                    words.resize(words.len() + LONGEST_LINE / 11, i32::MIN.to_string());
-                } else {
-                    words.resize(MOST_NUMBERS + 2 + self.random.below(500) as usize, "0".to_string());
-                }
+                self.misspell(&mut words);
             }
             _ => {
                 self.tag("line: a number that its type cannot hold");
@@ -84,37 +79,88 @@ impl Maker {
         word + numbers
     }
 
-    pub(super) fn overfill(&mut self, call: &Call, words: &mut [String]) {
-        const ABOVE_ALL: &str = "18446744073709551616";
-        const BELOW_ALL: &str = "-9223372036854775809";
-        const TWO_32: &str = "4294967296";
-        const TWO_31: &str = "2147483648";
+    /// One number becomes what a hasty look takes for one.
+    fn misspell(&mut self, words: &mut [String]) {
         let last = words.len() - 1;
-        let any = self.random.from_to(1, last as u64) as usize;
-        let (place, number) = match (call, self.random.below(8)) {
-            (Call::Pod { .. }, 0..=2) => (1, self.random.pick(&["-1", ABOVE_ALL])),
-            (Call::Pod { .. }, _) => (self.random.from_to(2, 7) as usize, self.random.pick(&["-1", "256"])),
-            (_, 0) => (1, "-1"),
-            (_, 1) => (self.random.from_to(2, 4) as usize, self.random.pick(&["-1", TWO_32])),
-            (_, 2) => (any, self.random.pick(&[ABOVE_ALL, BELOW_ALL])),
-            (Call::Fresh(_) | Call::New(_), _) => (1, BELOW_ALL),
-            (_, 3) => (5, "-1"),
-            (Call::Write { .. }, 4) => (6, self.random.pick(&["-1", TWO_32])),
-            (_, 4) => (6, self.random.pick(&["3", "-1", "256", TWO_32])),
-            (_, 5) => (7, self.random.pick(&[TWO_31, "-2147483649"])),
-            (_, 6) => (self.random.from_to(8, 10) as usize, self.random.pick(&["-1", TWO_32])),
-            (Call::Write { .. }, _) => (72, self.random.pick(&["4097", "-1", TWO_32])),
-            (Call::One { .. }, _) => {
-                let place = self.random.from_to(135, 137) as usize;
-                (place, if place == 137 { TWO_31 } else { self.random.pick(&["65536", "-1"]) })
-            }
-            (Call::Run { .. }, _) if last > 134 => (last, self.random.pick(&["256", "-1"])),
-            (Call::Load { .. }, _) if last > 135 => (last, self.random.pick(&[TWO_31, "-2147483649"])),
-            (Call::Ask { .. } | Call::Load { .. }, _) => (135, "-1"),
-            (Call::Run { .. } | Call::Good { .. } | Call::Start, _) => (1, "-1"),
-        };
-        words[place] = number.to_string();
+        let place = self.random.from_to(1, last as u64) as usize;
+        let negative = words.iter().position(|word| word.starts_with('-'));
+        let old = words[place].clone();
+        match self.random.below(9) {
+            0 => words[place] = "-".to_string(),
+            1 => words[place] = old + "x",
+            2 => words[place] = old + ".5",
+            3 => words[place] = old + "-",
+            4 => words[place] = "+".to_string() + &old,
+            5 => words[place] = "0x".to_string() + &old,
+            6 => words[place] = "\t".to_string() + &old,
+            7 => words[last] += "\r",
+            // Where a negative number may stand, a second sign is all that is wrong.
+            _ => match negative {
+                Some(place) => words[place].insert(0, '-'),
+                None => words[place] = "--".to_string() + &old,
+            },
+        }
     }
+
+    /// One number becomes one that its type cannot hold.
+    fn overfill(&mut self, call: &Call, words: &mut [String]) {
+        let (place, outside) = self.typed_number(call, words.len() - 1);
+        words[place] = self.random.pick(outside).to_string();
+    }
+
+    /// The place of some number of a call, and what its type cannot hold.
+    fn typed_number(&mut self, call: &Call, last: usize) -> (usize, Outside) {
+        let setup = [(1, NO_64_BITS), (2, NO_32_BITS), (3, NO_32_BITS), (4, NO_32_BITS)];
+        let tables = if let Call::Write { .. } = call { 1 } else { 2 };
+        let slot = HEAD_NUMBERS + 1 + SLOT_NUMBERS * self.random.below((tables * SLOTS) as u64) as usize;
+        let head = [(SETUP_NUMBERS + 1, NO_64_BITS), (slot, NO_SIGNED_32), (slot + 1, NO_32_BITS)];
+        let more = [(slot + 2, NO_32_BITS), (slot + 3, NO_32_BITS)];
+        let reader = [&setup[..], &head, &more, &[(HEAD_NUMBERS, NO_MODE); 2]].concat();
+        let writer = [&setup[..], &head, &more, &[(HEAD_NUMBERS, NO_32_BITS)]].concat();
+        let places = match call {
+            Call::Fresh(_) | Call::New(_) | Call::Start => setup.to_vec(),
+            Call::Pod { .. } => {
+                let byte = self.random.from_to(2, last as u64) as usize;
+                vec![(1, NO_64_BITS), (byte, NO_BYTE), (last, NO_BYTE)]
+            }
+            Call::Good { .. } => reader,
+            Call::Run { .. } if last > READER_NUMBERS => [reader, vec![(last, NO_BYTE); 3]].concat(),
+            Call::Run { .. } => reader,
+            Call::One { .. } => {
+                let record = [(last - 2, NO_16_BITS), (last - 1, NO_16_BITS), (last, NO_SIGNED_32)];
+                [&reader[..], &record].concat()
+            }
+            Call::Ask { .. } => [&reader[..], &[(last, NO_64_BITS)]].concat(),
+            Call::Load { .. } if last > READER_NUMBERS + 1 => {
+                [&reader[..], &[(READER_NUMBERS + 1, NO_64_BITS), (last, NO_SIGNED_32)]].concat()
+            }
+            Call::Load { .. } => reader,
+            Call::Write { .. } => {
+                let room = [(WRITER_NUMBERS + 1, NO_64_BITS), (WRITER_NUMBERS + 2, NO_SIZE)];
+                let frame = if last > WRITER_NUMBERS + 2 { vec![(last, NO_SIGNED_32)] } else { Vec::new() };
+                [&writer[..], &room, &room, &frame].concat()
+            }
+        };
+        self.random.pick(&places)
+    }
+}
+
+/// How many numbers a call has at least.
+fn fixed(call: &Call) -> usize {
+    match call {
+        Call::Start => 0,
+        Call::Fresh(_) | Call::New(_) => SETUP_NUMBERS,
+        Call::Pod { .. } => POD_NUMBERS + 1,
+        Call::Ask { .. } | Call::Load { .. } => READER_NUMBERS + 1,
+        Call::One { .. } => READER_NUMBERS + 3,
+        Call::Run { .. } | Call::Good { .. } => READER_NUMBERS,
+        Call::Write { .. } => WRITER_NUMBERS + 2,
+    }
+}
+
+/// Whether more numbers than that make it another call and no bad line.
+pub(super) fn takes_any_count(call: &Call) -> bool {
+    matches!(call, Call::Run { .. } | Call::Load { .. } | Call::Write { .. } | Call::Pod { .. })
 }
 
 /// A word of the same first letter.

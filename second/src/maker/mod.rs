@@ -1,10 +1,14 @@
 //! Seeded random scripts: calls of every kind, good, at the edges of every range, and broken in each way.
 
 mod broken;
+mod events;
+mod forms;
+mod ids;
 mod lines;
+mod loads;
 mod numbers;
 mod pods;
-mod reading;
+mod runs;
 mod states;
 mod writing;
 
@@ -12,7 +16,7 @@ use crate::events::RECORD;
 use crate::pod::Pod;
 use crate::random::Random;
 use crate::reader::Reader;
-use crate::script::{Call, MOST_NUMBERS};
+use crate::script::{Call, MOST_NUMBERS, READER_NUMBERS};
 use crate::writer::Writer;
 
 /// What a script tries, by the names in its comment lines. A tally that misses one of them is a script that was too short, or a hole in this maker.
@@ -58,6 +62,8 @@ pub const TRIED: &[&str] = &[
     "frame: bad kind",
     "frame: bad number",
     "ids: near the wrap",
+    "ids: far apart",
+    "ids: a block without a gap",
     "room: exact",
     "room: to spare",
     "room: one byte less",
@@ -69,6 +75,7 @@ pub const TRIED: &[&str] = &[
     "run: calm",
     "run: rough",
     "run: long",
+    "run: many alike",
     "run: what a writer sends",
     "run: ragged",
     "one: calm",
@@ -98,13 +105,23 @@ pub const TRIED: &[&str] = &[
     "line: too many numbers",
     "line: a number that its type cannot hold",
     "line: not a number",
+    "line: spaces alone",
     "line: too long",
+    "line: one byte too many",
+    "line: one number too many",
+    "form: as many bytes as may be",
+    "form: as many numbers as may be",
+    "form: spaces and zeros too many",
 ];
 
 const KEPT_STATES: usize = 6;
-/// Room in a line for a run: the reader takes 134 numbers.
-const LONGEST_RUN: usize = (MOST_NUMBERS - 134) / RECORD;
+/// One line in so many is at a limit. There are five kinds of them, so that 4,000 calls try each.
+const LIMIT_TURN: u64 = 800;
+const LIMITS: u64 = 5;
+/// Room in a line for a run behind its reader.
+const LONGEST_RUN: usize = (MOST_NUMBERS - READER_NUMBERS) / RECORD;
 
+/// Makes one call after the other; some go on from the states that those before them ended in.
 pub struct Maker {
     pub(crate) random: Random,
     writers: Vec<Writer>,
@@ -112,9 +129,11 @@ pub struct Maker {
     pod: Pod,
     next_first_byte: u8,
     tags: Vec<&'static str>,
+    made: u64,
 }
 
 impl Maker {
+    /// The same seed makes the same script.
     pub fn new(seed: u64) -> Maker {
         let mut maker = Maker {
             random: Random::new(seed),
@@ -123,6 +142,7 @@ impl Maker {
             pod: Pod::FRESH,
             next_first_byte: 0,
             tags: Vec::new(),
+            made: 0,
         };
         for _ in 0..KEPT_STATES {
             let setup = maker.setup();
@@ -134,14 +154,26 @@ impl Maker {
 
     /// One call's line, with a comment line before it that says what it tries.
     pub fn lines(&mut self) -> String {
-        self.tags.clear();
-        let line = self.line();
+        let line = self.next_line();
         format!("# {}\n{line}\n", self.tags.join("; "))
     }
 
+    /// The same line without its comment and its end.
+    pub fn next_line(&mut self) -> String {
+        self.tags.clear();
+        self.made += 1;
+        self.line()
+    }
+
     fn line(&mut self) -> String {
-        if self.random.once_in(35) {
+        if self.made % LIMIT_TURN == 0 {
+            return self.at_limit(self.made / LIMIT_TURN);
+        }
+        if self.random.once_in(25) {
             return self.bad_line();
+        }
+        if self.random.once_in(50) {
+            return self.respelled();
         }
         let call = self.call();
         let line = call.line();
@@ -192,7 +224,7 @@ mod tests {
         let mut maker = Maker::new(3);
         for _ in 0..4000 {
             let lines = maker.lines();
-            let (comment, line) = lines.trim_end().split_once('\n').unwrap();
+            let (comment, line) = lines.strip_suffix('\n').unwrap().split_once('\n').unwrap();
             let answer = answer_line(line.as_bytes());
             assert_eq!(comment.starts_with("# line: "), answer == BAD_LINE, "{comment}\n{line}");
             if comment.contains("broken: ") {

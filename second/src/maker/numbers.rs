@@ -3,7 +3,13 @@
 use super::Maker;
 use crate::table::{Setup, LARGEST_POSITION, LARGEST_PRESSURE};
 
+/// The largest x, y and pressure, in the order of a slot's numbers.
+pub(super) fn limits(setup: &Setup) -> [u32; 3] {
+    [setup.largest_x, setup.largest_y, setup.largest_pressure]
+}
+
 impl Maker {
+    /// A good setup, now and then at an end of a range.
     pub(crate) fn setup(&mut self) -> Setup {
         let slots = match self.random.below(10) {
             0..=3 => self.random.from_to(1, 3),
@@ -18,7 +24,7 @@ impl Maker {
         }
     }
 
-    pub(super) fn largest(&mut self, limit: u32) -> u32 {
+    fn largest(&mut self, limit: u32) -> u32 {
         match self.random.below(4) {
             0 => self.random.from_to(1, 3) as u32,
             1 => limit,
@@ -27,29 +33,31 @@ impl Maker {
         }
     }
 
+    /// A setup that is to make a fresh state or to be refused.
     pub(crate) fn any_setup(&mut self) -> Setup {
-        let mut setup = self.setup();
+        let good = self.setup();
         if self.random.once_in(3) {
             self.tag("setup: good");
-            return setup;
+            return good;
         }
+        let mut setup = good;
         for _ in 0..self.random.pick(&[1, 1, 1, 2]) {
             match self.random.below(4) {
                 0 => {
                     self.tag("setup: n");
-                    setup.slots = self.bad_n(setup.slots);
+                    setup.slots = self.bad_n(good.slots);
                 }
                 1 => {
                     self.tag("setup: largest x");
-                    setup.largest_x = self.bad_largest(setup.largest_x, LARGEST_POSITION);
+                    setup.largest_x = self.bad_largest(good.largest_x, LARGEST_POSITION);
                 }
                 2 => {
                     self.tag("setup: largest y");
-                    setup.largest_y = self.bad_largest(setup.largest_y, LARGEST_POSITION);
+                    setup.largest_y = self.bad_largest(good.largest_y, LARGEST_POSITION);
                 }
                 _ => {
                     self.tag("setup: largest pressure");
-                    setup.largest_pressure = self.bad_largest(setup.largest_pressure, LARGEST_PRESSURE);
+                    setup.largest_pressure = self.bad_largest(good.largest_pressure, LARGEST_PRESSURE);
                 }
             }
         }
@@ -58,30 +66,39 @@ impl Maker {
 
     /// Sums with 2^8, 2^16 and 2^32 are good numbers again where they are cut to fewer bits.
     pub(crate) fn bad_n(&mut self, good: u64) -> u64 {
-        if self.random.once_in(2) {
+        if self.random.once_in(3) {
             return self.random.pick(&[0, 17]);
         }
-        let cut = good & 15;
         self.random.pick(&[
             18,
             200,
-            256 + cut,
-            (1 << 16) + cut,
-            (1 << 31) + cut,
-            (1 << 32) + cut,
-            (1 << 63) + cut,
+            (1 << 8) + good,
+            (1 << 16) + good,
+            (1 << 31) + good,
+            (1 << 32) + good,
+            (1 << 63) + good,
             u64::MAX,
         ])
     }
 
+    /// Cut to 8 or 16 bits, or without its sign, some are the good number again.
     pub(crate) fn bad_largest(&mut self, good: u32, limit: u32) -> u32 {
-        if self.random.once_in(2) {
+        if self.random.once_in(3) {
             return self.random.pick(&[0, limit + 1]);
         }
-        let cut = good & 255;
-        self.random.pick(&[limit + 2, 65_535, (1 << 16) + cut, (1 << 31) + cut, u32::MAX])
+        self.random.pick(&[limit + 2, 65_535, limit + 1 + good, (1 << 16) + good, (1 << 31) + good, u32::MAX])
     }
 
+    /// A slot number of n or more, which cut to fewer bits may be a good one.
+    pub(super) fn bad_slot(&mut self, n: u64) -> u64 {
+        if self.random.once_in(2) {
+            return self.random.pick(&[n, n, n + 1, 16.max(n), 17]);
+        }
+        let looks_good = (1 << self.random.pick(&[8, 16, 31, 32, 63])) + self.random.below(n);
+        self.random.pick(&[looks_good, looks_good, looks_good, u64::MAX])
+    }
+
+    /// 0 to `largest`, often one of the ends.
     pub(super) fn number(&mut self, largest: u32) -> u32 {
         match self.random.below(5) {
             0 => 0,
@@ -91,23 +108,33 @@ impl Maker {
         }
     }
 
+    /// Another number in the range, often the next one or one that differs in a bit alone.
     pub(super) fn other_number(&mut self, old: u32, largest: u32) -> u32 {
-        if self.random.once_in(2) {
-            let near = if self.random.once_in(2) { old.saturating_add(1) } else { old.saturating_sub(1) };
-            return near.min(largest);
+        let one_bit: Vec<u32> = (0..15).map(|bit| old ^ 1 << bit).filter(|other| *other <= largest).collect();
+        match self.random.below(6) {
+            0 => old.saturating_add(1).min(largest),
+            1 => old.saturating_sub(1).min(largest),
+            2 | 3 if !one_bit.is_empty() => self.random.pick(&one_bit),
+            _ => self.number(largest),
         }
-        self.number(largest)
     }
 
+    /// For a state: its numbers have no sign.
     pub(super) fn bad_held_number(&mut self, largest: u32) -> u32 {
         let cut = self.number(largest.min(255));
-        self.random.pick(&[largest.saturating_add(1), 32_768, (1 << 16) + cut, (1 << 31) + cut, u32::MAX])
+        let next = largest.saturating_add(1);
+        self.random.pick(&[next, next, 32_768, (1 << 16) + cut, (1 << 31) + cut, u32::MAX])
     }
 
+    /// For an event, an image or a frame.
     pub(super) fn bad_number(&mut self, largest: u32) -> i32 {
         let cut = self.number(largest.min(255)) as i32;
+        let next = largest.saturating_add(1).min(i32::MAX as u32) as i32;
         self.random.pick(&[
-            largest.saturating_add(1).min(i32::MAX as u32) as i32,
+            next,
+            next,
+            next.saturating_add(cut),
+            -1,
             -1,
             -5,
             32_768,
@@ -117,11 +144,13 @@ impl Maker {
         ])
     }
 
+    /// Neither -1 nor 0 to 65,535.
     pub(super) fn bad_id(&mut self) -> i32 {
         let cut = self.random.below(20) as i32;
         self.random.pick(&[-2, -9, 65_536, 70_000, 65_536 + cut, -65_536 + cut, i32::MIN, i32::MAX])
     }
 
+    /// Any number, where it must not matter.
     pub(super) fn junk(&mut self) -> i32 {
         self.random.word() as i32
     }

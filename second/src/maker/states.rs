@@ -1,22 +1,19 @@
 //! States: those that the calls before reached, and any well-formed ones.
 
+use super::ids::Ids;
 use super::{Maker, KEPT_STATES};
 use crate::reader::{Mode, Reader};
 use crate::table::{Setup, SlotNumber, Table, TrackingId, EMPTY};
 use crate::writer::Writer;
 
 impl Maker {
-    /// Live ids from a window of neighbours, so that the choice of a new one meets them.
-    pub(super) fn any_table(&mut self, setup: &Setup, window: u32) -> Table {
-        let mut offsets: Vec<u32> = (0..24).collect();
-        for i in (1..offsets.len()).rev() {
-            offsets.swap(i, self.random.below(i as u64 + 1) as usize);
-        }
-        let all = self.random.once_in(4);
+    /// A well-formed table; about half its slots are live, or all.
+    pub(super) fn any_table(&mut self, setup: &Setup, ids: Ids) -> Table {
+        let all = self.random.once_in(4) || matches!(ids, Ids::Block { .. });
         let mut table = EMPTY;
-        for (slot, offset) in table.iter_mut().zip(offsets).take(setup.slots as usize) {
+        for (slot, id) in table.iter_mut().zip(self.ids_of_slots(ids)).take(setup.slots as usize) {
             if all || self.random.once_in(2) {
-                slot.id = TrackingId(((window + offset) & 0xffff) as i32);
+                slot.id = id;
             }
             // An unused slot keeps numbers too, but many are as they were at the start.
             if slot.id.is_live() || self.random.once_in(2) {
@@ -28,32 +25,18 @@ impl Maker {
         table
     }
 
-    pub(super) fn window(&mut self) -> u32 {
-        match self.random.below(4) {
-            0 => 0,
-            1 => {
-                self.tag("ids: near the wrap");
-                self.random.from_to(65_510, 65_535) as u32
-            }
-            _ => self.random.below(65_536) as u32,
-        }
+    fn any_writer(&mut self) -> Writer {
+        let setup = self.setup();
+        let ids = self.ids();
+        let table = self.any_table(&setup, ids);
+        let current = SlotNumber(self.random.below(setup.slots));
+        Writer { setup, current, counter: self.counter(ids, &table), table }
     }
 
-    pub(super) fn any_writer(&mut self) -> Writer {
+    fn any_reader(&mut self) -> Reader {
         let setup = self.setup();
-        let window = self.window();
-        Writer {
-            setup,
-            current: SlotNumber(self.random.below(setup.slots)),
-            counter: (window + self.random.below(30) as u32 + 65_533) & 0xffff,
-            table: self.any_table(&setup, window),
-        }
-    }
-
-    pub(super) fn any_reader(&mut self) -> Reader {
-        let setup = self.setup();
-        let window = self.window();
-        let shown = self.any_table(&setup, window);
+        let ids = self.ids();
+        let shown = self.any_table(&setup, ids);
         let mut reader = Reader {
             setup,
             current: SlotNumber(self.random.below(setup.slots)),
@@ -62,22 +45,30 @@ impl Maker {
             pending: shown,
         };
         if reader.mode == Mode::Following && self.random.once_in(2) {
-            for _ in 0..self.random.from_to(1, 4) {
-                let s = self.random.below(setup.slots) as usize;
-                match self.random.below(5) {
-                    0 => reader.pending[s].x = self.number(setup.largest_x),
-                    1 => reader.pending[s].y = self.number(setup.largest_y),
-                    2 => reader.pending[s].pressure = self.number(setup.largest_pressure),
-                    3 => reader.pending[s].id = TrackingId(self.random.below(65_536) as i32),
-                    _ => reader.pending[s].id = TrackingId::UNUSED,
-                }
+            self.change_pending(&mut reader);
+        }
+        reader
+    }
+
+    /// What events could have done to the pending table since the last report.
+    fn change_pending(&mut self, reader: &mut Reader) {
+        let setup = reader.setup;
+        for _ in 0..self.random.from_to(1, 4) {
+            let s = self.random.below(setup.slots) as usize;
+            match self.random.below(5) {
+                0 => reader.pending[s].x = self.number(setup.largest_x),
+                1 => reader.pending[s].y = self.number(setup.largest_y),
+                2 => reader.pending[s].pressure = self.number(setup.largest_pressure),
+                3 => reader.pending[s].id = TrackingId(self.random.below(65_536) as i32),
+                _ => reader.pending[s].id = TrackingId::UNUSED,
             }
-            if setup.slots > 1 && self.random.once_in(2) {
-                self.tag("allowed: id repeated in the pending table");
+        }
+        if setup.slots > 1 && self.random.once_in(2) {
+            self.tag("allowed: id repeated in the pending table");
+            for _ in 0..self.random.pick(&[1, 1, 2, 3]) {
                 self.repeat_id(&mut reader.pending, setup.slots);
             }
         }
-        reader
     }
 
     /// Which of the kept states a call goes on from, and the state: kept ones move on as their calls do.

@@ -1,10 +1,11 @@
 //! Calls of the writer: frames and room for them, good and bad.
 
+use super::numbers::limits;
 use super::Maker;
 use crate::events::RECORD;
 use crate::script::{Call, LARGEST_BUFFER};
-use crate::table::{Setup, SLOTS};
-use crate::writer::Writer;
+use crate::table::{Setup, SLOTS, SLOT_NUMBERS};
+use crate::writer::{Writer, LARGEST_FRAME};
 
 impl Maker {
     pub(super) fn write(&mut self) -> Call {
@@ -18,7 +19,7 @@ impl Maker {
             self.break_frame(&writer, &mut frame);
         }
         let mut probe = writer.clone();
-        let need = match probe.write(&frame, &mut [0; 640], 0) {
+        let need = match probe.write(&frame, &mut [0; LARGEST_FRAME], 0) {
             Ok(written) => written.events as usize * RECORD,
             Err(_) => self.random.pick(&[0, 16, 40]),
         };
@@ -34,7 +35,7 @@ impl Maker {
     pub(crate) fn frame(&mut self, writer: &Writer) -> Vec<i32> {
         let n = writer.setup.slots.min(SLOTS as u64) as usize;
         let setup = writer.setup;
-        let mut frame = Vec::with_capacity(4 * n);
+        let mut frame = Vec::with_capacity(SLOT_NUMBERS * n);
         for slot in &writer.table[..n] {
             let kind = i32::from(slot.id.is_live());
             frame.extend([kind, slot.x as i32, slot.y as i32, slot.pressure as i32]);
@@ -42,13 +43,13 @@ impl Maker {
         if n == 0 {
             return frame;
         }
-        let s = 4 * self.random.below(n as u64) as usize;
+        let s = SLOT_NUMBERS * self.random.below(n as u64) as usize;
         match self.random.below(13) {
             0 => self.tag("frame: equal"),
             1..=3 => {
                 self.tag("frame: one number changed");
                 frame[s] = 1;
-                self.change_number(&setup, &mut frame[s..s + 4]);
+                self.change_number(&setup, &mut frame[s..s + SLOT_NUMBERS]);
             }
             4 | 5 => {
                 self.tag("frame: one slot's kind changed");
@@ -57,39 +58,38 @@ impl Maker {
             6 | 7 => {
                 self.tag("frame: several slots changed");
                 for _ in 0..self.random.from_to(2, 6) {
-                    let s = 4 * self.random.below(n as u64) as usize;
+                    let s = SLOT_NUMBERS * self.random.below(n as u64) as usize;
                     if self.random.once_in(2) {
                         frame[s] = self.random.pick(&[0, 1, 1, 2]);
                     } else {
-                        self.change_number(&setup, &mut frame[s..s + 4]);
+                        self.change_number(&setup, &mut frame[s..s + SLOT_NUMBERS]);
                     }
                 }
             }
             8 | 9 => {
                 self.tag("frame: every number changed");
-                for wanted in frame.chunks_exact_mut(4) {
-                    let limits = [setup.largest_x, setup.largest_y, setup.largest_pressure];
+                for wanted in frame.chunks_exact_mut(SLOT_NUMBERS) {
                     wanted[0] = 2;
-                    for (number, largest) in wanted[1..].iter_mut().zip(limits) {
+                    for (number, largest) in wanted[1..].iter_mut().zip(limits(&setup)) {
                         *number = if *number < largest.min(i32::MAX as u32) as i32 { *number + 1 } else { 0 };
                     }
                 }
             }
             10 => {
                 self.tag("frame: all begin");
-                for wanted in frame.chunks_exact_mut(4) {
+                for wanted in frame.chunks_exact_mut(SLOT_NUMBERS) {
                     wanted[0] = 2;
                 }
             }
             11 => {
                 self.tag("frame: all lift");
-                for wanted in frame.chunks_exact_mut(4) {
+                for wanted in frame.chunks_exact_mut(SLOT_NUMBERS) {
                     wanted[0] = 0;
                 }
             }
             _ => {
                 self.tag("frame: any good one");
-                for wanted in frame.chunks_exact_mut(4) {
+                for wanted in frame.chunks_exact_mut(SLOT_NUMBERS) {
                     wanted[0] = self.random.pick(&[0, 1, 1, 2]);
                     wanted[1] = self.number(setup.largest_x) as i32;
                     wanted[2] = self.number(setup.largest_y) as i32;
@@ -98,7 +98,7 @@ impl Maker {
             }
         }
         if self.random.once_in(2) {
-            for wanted in frame.chunks_exact_mut(4) {
+            for wanted in frame.chunks_exact_mut(SLOT_NUMBERS) {
                 if wanted[0] == 0 {
                     self.tag("frame: junk in slots of kind 0");
                     for number in &mut wanted[1..] {
@@ -110,13 +110,13 @@ impl Maker {
         frame
     }
 
-    pub(super) fn change_number(&mut self, setup: &Setup, wanted: &mut [i32]) {
+    fn change_number(&mut self, setup: &Setup, wanted: &mut [i32]) {
         let which = self.random.from_to(1, 3) as usize;
-        let largest = [setup.largest_x, setup.largest_y, setup.largest_pressure][which - 1];
+        let largest = limits(setup)[which - 1];
         wanted[which] = self.other_number(wanted[which] as u32, largest) as i32;
     }
 
-    pub(super) fn break_frame(&mut self, writer: &Writer, frame: &mut Vec<i32>) {
+    fn break_frame(&mut self, writer: &Writer, frame: &mut Vec<i32>) {
         if frame.is_empty() || self.random.once_in(3) {
             self.tag("frame: wrong length");
             let length = frame.len();
@@ -127,41 +127,34 @@ impl Maker {
                 return;
             }
         }
-        if frame.len() < 4 {
+        let rows = frame.len() / SLOT_NUMBERS;
+        if rows == 0 {
             return;
         }
-        let s = 4 * self.random.below(frame.len() as u64 / 4) as usize;
+        let s = SLOT_NUMBERS * self.random.below(rows as u64) as usize;
         if self.random.once_in(3) {
             self.tag("frame: bad kind");
             frame[s] = self.random.pick(&[-1, 3, 4, 256, 257, 65_537, i32::MIN, i32::MIN + 1, i32::MAX]);
         } else {
             self.tag("frame: bad number");
-            let setup = writer.setup;
             let which = self.random.from_to(1, 3) as usize;
-            let largest = [setup.largest_x, setup.largest_y, setup.largest_pressure][which - 1];
+            let largest = limits(&writer.setup)[which - 1];
             frame[s] = self.random.pick(&[1, 2]);
             frame[s + which] = self.bad_number(largest);
         }
     }
 
-    pub(super) fn room(&mut self, need: usize) -> (u64, usize) {
-        let position = match self.random.below(3) {
-            0 => 0,
-            1 => self.random.pick(&[1, 7, 8]),
-            _ => self.random.below(60),
-        };
+    /// Position and size for a frame of this need.
+    fn room(&mut self, need: usize) -> (u64, usize) {
+        let position = self.position();
         let end = position as usize + need;
         match self.random.below(14) {
-            0..=4 => {
-                self.tag("room: exact");
-                (position, end)
-            }
             5..=7 => {
                 self.tag("room: to spare");
                 let spare = match self.random.below(40) {
                     0 => LARGEST_BUFFER - end,
-                    1 => 640,
-                    _ => self.random.from_to(1, 40) as usize,
+                    1 => LARGEST_FRAME.min(LARGEST_BUFFER - end),
+                    _ => self.random.from_to(1, 40).min((LARGEST_BUFFER - end) as u64) as usize,
                 };
                 (position, end + spare)
             }
@@ -181,7 +174,9 @@ impl Maker {
             11 => {
                 self.tag("room: past the end");
                 let size = self.random.below(60);
-                (size + 1 + self.random.below(20), size as usize)
+                let near = size + 1 + self.random.below(20);
+                // Cut to fewer bits it would lie inside.
+                (self.random.pick(&[near, near, 256 + position % 256, (1 << 16) + position]), size as usize)
             }
             12 => {
                 self.tag("room: position near 2^64");
@@ -199,6 +194,18 @@ impl Maker {
                 self.tag("room: exact");
                 (position, end)
             }
+        }
+    }
+
+    /// Where a frame is to go: mostly near the buffer's start, since every byte of the buffer is printed.
+    fn position(&mut self) -> u64 {
+        if self.random.once_in(100) {
+            return self.random.below((LARGEST_BUFFER - LARGEST_FRAME) as u64);
+        }
+        match self.random.below(3) {
+            0 => 0,
+            1 => self.random.pick(&[1, 7, 8]),
+            _ => self.random.below(60),
         }
     }
 }

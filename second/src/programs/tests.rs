@@ -5,22 +5,12 @@ use crate::noise::noise;
 use crate::trial::*;
 use Status::{Accepted, Failed, Refused};
 
-const ALL: [&str; 4] = ["show_table", "write_frames", "show_pod", "drive"];
 const LOST: &str = "a read from standard input failed: Input/output error\n";
-
-fn run(program: &str, input: impl Read, out: impl Write, err: impl Write) -> Status {
-    match program {
-        "show_table" => show_table(input, out, err),
-        "write_frames" => write_frames(input, out, err),
-        "show_pod" => show_pod(input, out, err),
-        _ => drive(input, out, err),
-    }
-}
 
 /// Status, output and words for bytes that come in pieces and then end or are lost.
 fn answers(program: &str, bytes: &[u8], size: usize, fails: bool) -> (Status, Vec<u8>, String) {
     let (mut out, mut err) = (Vec::new(), Vec::new());
-    let status = run(program, Pieces { bytes, size, fails }, &mut out, &mut err);
+    let status = run(program, Pieces { bytes, size, fails }, &mut out, &mut err).unwrap();
     (status, out, String::from_utf8(err).unwrap())
 }
 
@@ -281,7 +271,7 @@ fn a_failed_write_is_said_and_ends_the_program() {
     ] {
         for room in 0..50 {
             let (mut out, mut err) = (Full { taken: Vec::new(), room }, Vec::new());
-            let status = run(program, Pieces { bytes: &bytes, size: 16, fails: true }, &mut out, &mut err);
+            let status = run(program, Pieces { bytes: &bytes, size: 16, fails: true }, &mut out, &mut err).unwrap();
             let words = String::from_utf8(err).unwrap();
             let whole = answers(program, &bytes, 16, true).1;
             assert_eq!((status, &out.taken), (Failed, &whole[..room.min(whole.len())].to_vec()));
@@ -325,7 +315,7 @@ fn long_inputs_are_answered_as_in_one_piece() {
 #[test]
 fn noise_is_answered_and_tries_every_word_of_the_page() {
     let mut seen = String::new();
-    for program in ALL {
+    for program in NAMES {
         for index in 0..400 {
             let bytes = noise(program, 1, index).unwrap();
             let whole = answers(program, &bytes, usize::MAX, false);

@@ -2,11 +2,11 @@
 #![allow(dead_code)]
 
 use second::events::{events, Event, RECORD};
-use second::reader::Reader;
+use second::reader::{Mode, Reader};
 use second::records::event_text;
 use second::refusal::Refusal;
 use second::table::{Setup, Slot, SlotNumber, Table, TrackingId, EMPTY};
-use second::writer::{Writer, Written};
+use second::writer::{Writer, Written, LARGEST_FRAME};
 
 pub fn panel(slots: u64) -> Setup {
     Setup { slots, largest_x: 4000, largest_y: 4000, largest_pressure: 255 }
@@ -30,15 +30,15 @@ pub fn following(current: u64, slots: &[Slot]) -> Reader {
     Reader {
         setup: panel(slots.len() as u64),
         current: SlotNumber(current),
+        mode: Mode::Following,
         shown: table(slots),
         pending: table(slots),
-        ..Reader::default()
     }
 }
 
 /// The events that a frame is sent as, in words, and the rest of the answer.
 pub fn write(writer: &mut Writer, frame: &[i32]) -> Result<(Vec<String>, Written), Refusal> {
-    let mut buffer = [0; 640];
+    let mut buffer = [0; LARGEST_FRAME];
     let written = writer.write(frame, &mut buffer, 0)?;
     let sent = &buffer[..written.events as usize * RECORD];
     Ok((events(sent).map(event_text).collect(), written))

@@ -1,6 +1,15 @@
 -- `write_frames::send_frames` lends no byte past those lent to it. The loop has sent the frames before `at`. Assumes nothing.
-use Prim.Native.Nat.{_≤_, _-_}
-use mathlib.Core.Path.{_≡_}
+use Prim.Native.Nat.{ℕ, _≤_, _-_}
+use mathlib.Core.Path.{_≡_, sym, subst}
+use mathlib.Core.List.{List}
+use lib.IntN.{ℤ}
+use Rattle.model.specs.Panel.{base}
+use Rattle.model.specs.Calls.{writeCall}
+use Rattle.model.proofs.Instances.{base-good}
+use Rattle.model.proofs.Limits.{limits}
+use Rattle.writer.specs.declared.WriterState.{WriterState}
+use Rattle.writer.specs.declared.Written.{Written}
+use Rattle.writer.specs.Seen.{seen, writtenFrom}
 use native.Mathlib.Omega.{arith}
 use lib.ListN.{length}
 use borrow.Author.Needs.{needs}
@@ -66,8 +75,15 @@ slice-aggregate-write c = search needs
 write-requires : tie.Need-write-requires Inv-loop μ-loop
 write-requires c κs = search needs
 
+-- No answer of `write` has more than 80 events.
+few : (s : WriterState) (f : List ℤ) (at n : ℕ) (r : Written) → r ≡ writtenFrom (writeCall base (seen s) f at n) → r .count ≤ 80
+few s f at n r e = subst (λ (w : Written). w .count ≤ 80) (sym e) (limits base (seen s) f at n base-good .0)
+
 answered-requires : tie.Need-answered-requires Inv-loop μ-loop
-answered-requires c κs = search needs
+answered-requires c κs =
+    let w = c .before .before .before .before in
+    let handed = w .before .before .before .before .before .before .before .before .before .before .before .loop .state in
+    few handed _ _ _ _ (w .write .ensures .0)
 
 wrapping-add-u64-requires : tie.Need-wrapping-add-u64-requires Inv-loop μ-loop
 wrapping-add-u64-requires c κs = search needs

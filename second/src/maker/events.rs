@@ -1,0 +1,128 @@
+//! Events for a reader: good ones, those that lose it, and those that are no listed one.
+
+use super::Maker;
+use crate::events::*;
+use crate::reader::Reader;
+
+/// The types that Linux has, and the codes of its type EV_ABS and of EV_SYN: the next listed one is never far.
+const TYPES: u64 = 0x20;
+const ABS_CODES: u64 = 0x40;
+const SYN_CODES: u64 = 0x10;
+
+/// Neighbours of the listed types and codes, and those that a cut or swapped half-word would take for one.
+const UNLISTED: &[(u16, u16)] = &[
+    (0, 1),
+    (0, 2),
+    (0, 4),
+    (0, 0x2f),
+    (0, 0x35),
+    (0, 0x100),
+    (0, 0x103),
+    (0, 0x300),
+    (0x100, 0),
+    (0x100, 3),
+    (1, 0),
+    (1, 3),
+    (1, 0x2f),
+    (1, 330),
+    (2, 0x36),
+    (3, 0),
+    (3, 3),
+    (3, 0x2e),
+    (3, 0x30),
+    (3, 0x34),
+    (3, 0x37),
+    (3, 0x38),
+    (3, 0x3b),
+    (3, 0x12f),
+    (3, 0x135),
+    (3, 0x2f00),
+    (3, 0x3900),
+    (3, 0x3ff),
+    (3, 0xffff),
+    (4, 4),
+    (0x103, 0x39),
+    (0x300, 0x3a),
+    (0xffff, 0xffff),
+];
+
+impl Maker {
+    /// An event for this reader; a rough one may make it lose.
+    pub(crate) fn event(&mut self, reader: &Reader, rough: bool) -> Event {
+        let setup = &reader.setup;
+        match self.random.below(17) {
+            0..=2 => Event::abs(ABS_MT_SLOT, self.random.below(setup.slots) as i32),
+            3 => Event::abs(ABS_MT_TRACKING_ID, -1),
+            4 => Event::abs(ABS_MT_TRACKING_ID, self.good_id(reader)),
+            5..=7 => Event::abs(ABS_MT_POSITION_X, self.number(setup.largest_x) as i32),
+            8 | 9 => Event::abs(ABS_MT_POSITION_Y, self.number(setup.largest_y) as i32),
+            10 => Event::abs(ABS_MT_PRESSURE, self.number(setup.largest_pressure) as i32),
+            11 | 12 => Event::REPORT,
+            13 => Event { value: self.junk(), ..Event::REPORT },
+            14 | 15 => self.unknown_event(),
+            _ if rough => self.rough_event(reader),
+            _ => Event::REPORT,
+        }
+    }
+
+    /// Any id, one of the ends, or one that differs from a live one in a bit alone.
+    fn good_id(&mut self, reader: &Reader) -> i32 {
+        let any = self.random.below(1 << 16) as i32;
+        let shown = reader.shown[self.random.below(reader.setup.slots) as usize].id;
+        match self.random.below(5) {
+            0 => self.random.pick(&[0, 65_535]),
+            1 if shown.is_live() => shown.0 ^ 1 << self.random.below(16),
+            _ => any,
+        }
+    }
+
+    /// SYN_DROPPED, a bad value, or an id that stands elsewhere.
+    pub(super) fn rough_event(&mut self, reader: &Reader) -> Event {
+        let setup = &reader.setup;
+        match self.random.below(8) {
+            0 => Event::DROPPED,
+            1 => Event { value: self.junk(), ..Event::DROPPED },
+            2 => {
+                let n = setup.slots as i32;
+                let value = self.random.pick(&[n, n, n, -1, 16, 256, 65_536, i32::MIN, i32::MAX]);
+                Event::abs(ABS_MT_SLOT, value.max(if value < 0 { value } else { n }))
+            }
+            3 => Event::abs(ABS_MT_TRACKING_ID, self.bad_id()),
+            4 => Event::abs(ABS_MT_POSITION_X, self.bad_number(setup.largest_x)),
+            5 => Event::abs(ABS_MT_POSITION_Y, self.bad_number(setup.largest_y)),
+            6 => Event::abs(ABS_MT_PRESSURE, self.bad_number(setup.largest_pressure)),
+            _ => {
+                // Most often the id of another slot, so that the next report finds it twice.
+                let s = self.random.below(setup.slots) as usize;
+                Event::abs(ABS_MT_TRACKING_ID, reader.shown[s].id.0)
+            }
+        }
+    }
+
+    /// A type and code that are not listed, most of them beside listed ones.
+    pub(super) fn unknown_event(&mut self) -> Event {
+        let (kind, code) = loop {
+            let pair = self.beside_listed();
+            if !LISTED.contains(&pair) {
+                break pair;
+            }
+        };
+        Event { kind, code, value: self.random.pick(&[0, 1, -1, 5, i32::MIN, i32::MAX]) }
+    }
+
+    fn beside_listed(&mut self) -> (u16, u16) {
+        let (kind, code) = self.random.pick(&LISTED);
+        let bit = 1u16 << self.random.below(16);
+        match self.random.below(12) {
+            0 => self.random.pick(UNLISTED),
+            1..=3 => (kind ^ bit, code),
+            4..=6 => (kind, code ^ bit),
+            7 | 8 => (self.random.below(TYPES) as u16, code),
+            9 | 10 => {
+                let codes = if kind == EV_ABS { ABS_CODES } else { SYN_CODES };
+                (kind, self.random.below(codes) as u16)
+            }
+            _ => (self.random.word() as u16, self.random.word() as u16),
+        }
+    }
+}

@@ -1,0 +1,133 @@
+//! Mistakes in how a line is read: its limits, its word, its spaces and its numbers.
+
+use second::script::{answer_line, Call, BAD_LINE, LARGEST_BUFFER, LONGEST_LINE, MOST_NUMBERS, POD_NUMBERS};
+
+use crate::wrong::{answers, Wrong};
+
+const NAMES: [&str; 10] = ["fresh", "new", "run", "one", "load", "ask", "good", "write", "start", "pod"];
+
+/// It reads a line that is no call as another line.
+fn forgives(name: &str, other: impl Fn(&str) -> Option<String> + 'static) -> Wrong {
+    answers(name, move |asked| match asked.call {
+        None => other(asked.line).map(|line| answer_line(line.as_bytes())),
+        Some(_) => None,
+    })
+}
+
+/// It takes no call of that kind.
+fn minds(name: &str, when: impl Fn(&str, &Call) -> bool + 'static) -> Wrong {
+    answers(name, move |asked| when(asked.line, asked.call?).then(|| BAD_LINE.to_string()))
+}
+
+fn words(line: &str) -> impl Iterator<Item = &str> {
+    line.split(' ').filter(|word| !word.is_empty())
+}
+
+fn numbers(line: &str) -> usize {
+    words(line).count().saturating_sub(1)
+}
+
+/// The line with each number changed.
+fn with_numbers(line: &str, change: impl Fn(&str) -> String) -> Option<String> {
+    let mut words = words(line);
+    let word = words.next()?.to_string();
+    Some(words.map(change).fold(word, |line, number| line + " " + &number))
+}
+
+/// The line with another word, if one is found.
+fn with_word(line: &str, find: impl Fn(&str, &str) -> bool) -> Option<String> {
+    let word = words(line).next()?;
+    let name = NAMES.iter().find(|name| find(name, word))?;
+    Some(line.replacen(word, name, 1))
+}
+
+/// A number without zeros in front.
+fn plain(word: &str) -> String {
+    word.parse::<i128>().map_or(word.to_string(), |number| number.to_string())
+}
+
+/// A number as it stands in fewer bits.
+fn cut(word: &str, bits: u32) -> String {
+    word.parse::<i128>().map_or(word.to_string(), |number| number.rem_euclid(1 << bits).to_string())
+}
+
+fn limits() -> Vec<Wrong> {
+    vec![
+        minds("65,535 bytes are too many", |line, _| line.len() == LONGEST_LINE),
+        forgives("65,536 bytes are not too many", |line| {
+            (line.len() == LONGEST_LINE + 1).then(|| with_numbers(line, plain)).flatten()
+        }),
+        forgives("a longer line is cut", |line| line.get(..LONGEST_LINE).map(str::to_string)),
+        minds("12,000 numbers are too many", |line, _| numbers(line) == MOST_NUMBERS),
+        forgives("12,001 numbers are not too many", |line| {
+            (numbers(line) == MOST_NUMBERS + 1)
+                .then(|| words(line).take(1 + MOST_NUMBERS).collect::<Vec<_>>().join(" "))
+        }),
+        minds("a buffer of 4,096 bytes is too large", |_, call| {
+            matches!(call, Call::Write { size: LARGEST_BUFFER, .. })
+        }),
+        forgives("a buffer of 4,097 bytes is not too large", |line| {
+            with_numbers(line, |number| number.replace("4097", "4096"))
+        }),
+        forgives("numbers too many are passed over", |line| {
+            line.trim_end().rsplit_once(' ').map(|(line, _)| line.to_string())
+        }),
+        forgives("a number that is missing is 0", |line| Some(format!("{line} 0"))),
+        forgives("a pod needs no byte", |line| {
+            (line.starts_with("pod ") && numbers(line) == POD_NUMBERS).then(|| "start".to_string())
+        }),
+    ]
+}
+
+fn spelling() -> Vec<Wrong> {
+    vec![
+        forgives("the first letter is enough", |line| with_word(line, |name, word| name[..1] == word[..1])),
+        forgives("a word may be cut", |line| with_word(line, |name, word| name.starts_with(word))),
+        forgives("a word may be longer", |line| with_word(line, |name, word| word.starts_with(name))),
+        forgives("a capital is a small letter", |line| with_word(line, |name, word| name == word.to_lowercase())),
+        minds("two spaces are one too many", |line, _| line.trim().contains("  ")),
+        minds("no space may stand in front", |line, _| line.starts_with(' ')),
+        minds("no space may stand at the end", |line, _| line.ends_with(' ')),
+        answers("spaces alone are passed over", |asked| asked.line.trim().is_empty().then(String::new)),
+        forgives("a tab is a space", |line| Some(line.replace('\t', " "))),
+        forgives("a carriage return is no part of a line", |line| Some(line.replace('\r', ""))),
+    ]
+}
+
+fn numerals() -> Vec<Wrong> {
+    let is_long = |word: &str| word.len() > 1 && word.trim_start_matches('-').starts_with('0');
+    let mut all = vec![
+        minds("007 is no number", move |line, _| words(line).skip(1).any(is_long)),
+        minds("-0 is no number", |line, _| words(line).skip(1).any(|word| word == "-0")),
+        forgives("+5 is a number", |line| with_numbers(line, |number| number.replace('+', ""))),
+        forgives("0x5 is a number", |line| with_numbers(line, |number| number.replace("0x", ""))),
+        forgives("1.5 is 1", |line| with_numbers(line, |number| number.split('.').next().unwrap_or("").to_string())),
+        forgives("1x is 1", |line| with_numbers(line, |number| number.replace('x', ""))),
+        forgives("a sign alone is 0", |line| with_numbers(line, |number| number.replace('-', "0"))),
+        forgives("a second sign is passed over", |line| with_numbers(line, |number| number.replace("--", "-"))),
+        forgives("mode 3 is stale", |line| {
+            let mut all: Vec<&str> = words(line).collect();
+            *all.get_mut(6).filter(|word| **word == "3")? = "2";
+            Some(all.join(" "))
+        }),
+        forgives("-1 is 1 where no sign may be", |line| with_numbers(line, |number| number.replace("-1", "1"))),
+    ];
+    for bits in [8, 16, 32, 64] {
+        let is_wide = move |word: &str| word.parse().is_ok_and(|number: i128| number >= 1 << bits);
+        all.push(forgives(&format!("numbers are cut to {bits} bits"), move |line| {
+            with_numbers(line, |word| if is_wide(word) { cut(word, bits) } else { word.to_string() })
+        }));
+    }
+    for bits in [31, 32, 63, 64] {
+        let is_low = move |word: &str| word.parse().is_ok_and(|number: i128| number < -(1 << (bits - 1)));
+        all.push(forgives(&format!("a negative number of more than {bits} bits is cut"), move |line| {
+            with_numbers(line, |word| if is_low(word) { cut(word, bits) } else { word.to_string() })
+        }));
+    }
+    all
+}
+
+/// Each mistake of this file.
+pub fn all() -> Vec<Wrong> {
+    [limits(), spelling(), numerals()].into_iter().flatten().collect()
+}

@@ -1,0 +1,182 @@
+//! What a wrong program is: it answers as the rules do, but for one mistake. The mistake stands around the rules and never in them.
+
+use second::events::{events, Event};
+use second::pod::{Pod, Report};
+use second::reader::{Counts, Reader};
+use second::refusal::Refusal;
+use second::script::{marks, Call, InWords, READER_NUMBERS, WRITER_NUMBERS};
+use second::writer::Writer;
+
+/// A line of a script, what it is, and the right answer.
+pub struct Asked<'a> {
+    pub line: &'a str,
+    pub call: Option<&'a Call>,
+    pub right: &'a str,
+}
+
+/// A program with one mistake.
+pub struct Wrong {
+    pub name: String,
+    answer: Box<Answer>,
+}
+
+type Answer = dyn Fn(&Asked) -> Option<String>;
+
+impl Wrong {
+    /// Whether this line shows the mistake.
+    pub fn shows(&self, asked: &Asked) -> bool {
+        (self.answer)(asked).is_some_and(|answer| answer != asked.right)
+    }
+}
+
+/// By its whole answer; `None` where it answers as the rules do.
+pub fn answers(name: impl Into<String>, answer: impl Fn(&Asked) -> Option<String> + 'static) -> Wrong {
+    Wrong { name: name.into(), answer: Box::new(answer) }
+}
+
+/// It takes a call for another one, and that one's answer is right.
+pub fn takes(name: impl Into<String>, change: impl Fn(&mut Call) + 'static) -> Wrong {
+    answers(name, move |asked| {
+        let mut other = asked.call?.clone();
+        change(&mut other);
+        if other == *asked.call? {
+            return None;
+        }
+        let answer = other.answer();
+        // Of the same refusal it gives back the state that came in, and not the one that it takes it for.
+        (refusal(&answer, &other) == 0 || verdict(&answer, &other) != verdict(asked.right, &other)).then_some(answer)
+    })
+}
+
+/// It refuses a call that it is to take, or for a reason that is judged later.
+pub fn refuses(name: impl Into<String>, number: u8, when: impl Fn(&Call) -> bool + 'static) -> Wrong {
+    answers(name, move |asked| {
+        let right = refusal(asked.right, asked.call?);
+        ((right == 0 || right > number) && when(asked.call?)).then(|| refused(asked.call.unwrap(), number))
+    })
+}
+
+/// It judges this before anything else.
+pub fn judges_early(name: impl Into<String>, number: u8, when: impl Fn(&Call) -> bool + 'static) -> Wrong {
+    answers(name, move |asked| when(asked.call?).then(|| refused(asked.call.unwrap(), number)))
+}
+
+/// It does the right thing, and says it otherwise; the words are those of the right answer.
+pub fn says(name: impl Into<String>, change: impl Fn(&Call, &mut Vec<String>) + 'static) -> Wrong {
+    answers(name, move |asked| {
+        let mut words = asked.right.split(' ').map(str::to_string).collect();
+        change(asked.call?, &mut words);
+        Some(words.join(" "))
+    })
+}
+
+/// It reads a record otherwise. The reader that it is handed is well formed, until its mistake makes another of it.
+pub fn steps(name: impl Into<String>, step: impl Fn(&mut Reader, Event) -> Counts + 'static) -> Wrong {
+    answers(name, move |asked| {
+        let (mut reader, events) = match asked.call? {
+            Call::Run { reader, bytes } => (reader.clone(), events(bytes).collect()),
+            Call::One { reader, event } => (reader.clone(), vec![*event]),
+            _ => return None,
+        };
+        if refusal(asked.right, asked.call?) != 0 {
+            return None;
+        }
+        let mut sum = Counts::ZEROS;
+        for event in events {
+            let counts = step(&mut reader, event);
+            sum.shown += counts.shown;
+            sum.skipped += counts.skipped;
+            sum.bad += counts.bad;
+            sum.ignored += counts.ignored;
+        }
+        Some(format!("0 {} {}", reader_text(&reader), counts_text(&sum)))
+    })
+}
+
+/// The right step. A reader that a mistake broke is one that no rule tells of: its answer differs already.
+pub fn right_step(reader: &mut Reader, event: Event) -> Counts {
+    reader.one(event).unwrap_or(Counts::ZEROS)
+}
+
+/// It takes a pod's byte otherwise.
+pub fn pods(name: impl Into<String>, take: impl Fn(&mut Pod, u8) -> Result<Report, Refusal> + 'static) -> Wrong {
+    answers(name, move |asked| {
+        let Call::Pod { pod, bytes } = asked.call? else {
+            return None;
+        };
+        let mut pod = *pod;
+        let steps: Vec<String> = bytes.iter().map(|byte| pod_step(&mut pod, |pod| take(pod, *byte))).collect();
+        Some(steps.join(" / "))
+    })
+}
+
+fn pod_step(pod: &mut Pod, take: impl Fn(&mut Pod) -> Result<Report, Refusal>) -> String {
+    match take(pod) {
+        Ok(report) => format!("{} {}", pod_text(pod), InWords(report)),
+        Err(refusal) => format!("{} refused {}", pod_text(pod), refusal.number()),
+    }
+}
+
+/// The number of the refusal that an answer is; 0 for none.
+pub fn refusal(answer: &str, call: &Call) -> u8 {
+    let first = answer.split(' ').next().unwrap_or("");
+    match call {
+        Call::Good { .. } => 2 * u8::from(first == "0"),
+        Call::Ask { .. } => 2 * u8::from(first == "refused"),
+        Call::Start | Call::Pod { .. } => 2 * u8::from(answer.ends_with("refused 2")),
+        _ => first.parse().expect("a verdict"),
+    }
+}
+
+/// The refusal with its need.
+fn verdict(answer: &str, call: &Call) -> (u8, Option<String>) {
+    let need = match call {
+        Call::Write { .. } => answer.split(' ').nth(WRITER_NUMBERS + 3).map(str::to_string),
+        _ => None,
+    };
+    (refusal(answer, call), need)
+}
+
+/// The answer where a call is refused, with no need.
+fn refused(call: &Call, number: u8) -> String {
+    match call {
+        Call::Fresh(_) => format!("{number}{}", " 0".repeat(READER_NUMBERS)),
+        Call::New(_) => format!("{number}{}", " 0".repeat(WRITER_NUMBERS)),
+        Call::Run { reader, .. } | Call::One { reader, .. } => format!("{number} {} 0 0 0 0", reader_text(reader)),
+        Call::Load { reader, .. } => format!("{number} {}", reader_text(reader)),
+        Call::Ask { .. } => format!("refused {number}"),
+        Call::Good { .. } => "0".to_string(),
+        Call::Write { writer, size, .. } => {
+            format!("{number} {} 0 0 0 :{}", writer_text(writer), bytes_text(&marks(*size)))
+        }
+        Call::Start | Call::Pod { .. } => format!("refused {number}"),
+    }
+}
+
+/// Its numbers as they stand in a line.
+pub fn reader_text(reader: &Reader) -> String {
+    numbers_of(&Call::Good { reader: reader.clone() })
+}
+
+/// Its numbers as they stand in a line.
+pub fn writer_text(writer: &Writer) -> String {
+    let line = numbers_of(&Call::Write { writer: writer.clone(), position: 0, size: 0, frame: Vec::new() });
+    line.strip_suffix(" 0 0").expect("position and size").to_string()
+}
+
+fn pod_text(pod: &Pod) -> String {
+    numbers_of(&Call::Pod { pod: *pod, bytes: Vec::new() })
+}
+
+fn numbers_of(call: &Call) -> String {
+    call.line()[call.name().len() + 1..].to_string()
+}
+
+fn counts_text(counts: &Counts) -> String {
+    format!("{} {} {} {}", counts.shown, counts.skipped, counts.bad, counts.ignored)
+}
+
+/// Bytes as they stand behind the `:` of an answer.
+pub fn bytes_text(bytes: &[u8]) -> String {
+    bytes.iter().map(|byte| format!(" {byte}")).collect()
+}
