@@ -42,7 +42,7 @@ loop-again c =
     let turn = c .before .before .before .before .before .before .before .before .loop in
     let l = c .before .before .before .before .before .before .before .before .before .before .before .args .bytes .now in
     let h : turn .i < length l = omega arith in
-    let onward : stateAfter (turn .s) (drop (turn .i) l) ≡ stateAfter (stepped .result .state) (drop (turn .i + 1) l) = rw (stepped .ensures, add-one, drop-cons l (turn .i) 0 h) (after-one (turn .s) (getD l (turn .i) 0) (drop (suc (turn .i)) l)) in
+    let onward : stateAfter (turn .s) (drop (turn .i) l) ≡ stateAfter (stepped .result .state) (drop (turn .i + 1) l) = rw (stepped .ensures .answer, add-one, drop-cons l (turn .i) 0 h) (after-one (turn .s) (getD l (turn .i) 0) (drop (suc (turn .i)) l)) in
     (search needs, search needs, turn .inv .2 ∙ onward)
 
 same-length : tie.Need-same-length Inv-loop μ-loop

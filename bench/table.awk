@@ -1,0 +1,66 @@
+# Prints a benchmark's table. Reads its limits (load, n, the most that Rattle over Rust in place may be), then its counts (load, n, version, instructions). Ends with 1 where a limit is missed.
+/^#/ { next }
+
+FNR == NR {
+  most[$1, $2] = $3
+  next
+}
+
+!($4 > 0) {
+  print "table.awk: no count in the line " $0 >"/dev/stderr"
+  failed = 2
+  exit
+}
+
+# The versions in the order in which they come; Rattle is the last.
+!($3 in known) {
+  known[$3] = 1
+  version[++versions] = $3
+}
+
+!(($1, $2) in row) {
+  row[$1, $2] = ++rows
+  load[rows] = $1
+  size[rows] = $2
+}
+
+{
+  count[row[$1, $2], $3] = $4
+}
+
+END {
+  if (failed) exit failed
+  head()
+  for (r = 1; r <= rows; r++) line(r)
+  printf "limits (Rattle / Rust in place): %d met, %d missed%s\n", met, missed, told
+  exit missed > 0
+}
+
+function head(v) {
+  printf "%-8s %3s", "load", "n"
+  for (v = 1; v <= versions; v++) printf " %10s", version[v]
+  for (v = 1; v < versions; v++) printf " %9s", "/" version[v]
+  printf "  limit\n"
+}
+
+function ratio(r, name) {
+  return count[r, version[versions]] / count[r, name]
+}
+
+function line(r, v) {
+  printf "%-8s %3d", load[r], size[r]
+  for (v = 1; v <= versions; v++) printf " %10.0f", count[r, version[v]]
+  for (v = 1; v < versions; v++) printf " %9.2f", ratio(r, version[v])
+  if ((load[r], size[r]) in most) printf "  %s", judged(r, most[load[r], size[r]])
+  printf "\n"
+}
+
+function judged(r, limit) {
+  if (ratio(r, "inplace") <= limit) {
+    met++
+    return limit " met"
+  }
+  missed++
+  told = told (told ? ", " : ": ") load[r] " " size[r]
+  return limit " missed"
+}

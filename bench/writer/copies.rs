@@ -1,0 +1,153 @@
+//! The writer in plain Rust that copies, in the steps of the proved one: a state comes in by value and goes out by value, and a whole new table is planned beside the old one.
+
+use crate::panel::{Setup, Slot, Table, RECORDS};
+use crate::state::State;
+use crate::version::{Refused, Sent, Writer};
+
+struct Written {
+    state: State,
+    outcome: Result<Sent, Refused>,
+}
+
+fn values_ok(setup: &Setup, frame: &[i32]) -> bool {
+    frame.chunks_exact(4).all(|row| match row[0] {
+        0 => true,
+        1 | 2 => setup.numbers_ok(row[1] as u32, row[2] as u32, row[3] as u32),
+        _ => false,
+    })
+}
+
+/// The first id from `from` on that is neither live nor given in this frame.
+fn choose(old: &Table, given: &[i32], from: u32) -> u32 {
+    let mut k = from;
+    loop {
+        let id = k as i32;
+        if !old.iter().any(|s| s.id == id) && !given.contains(&id) {
+            return k;
+        }
+        k = (k + 1) % 65536;
+    }
+}
+
+/// The table and the counter after a good frame.
+fn plan(state: &State, frame: &[i32]) -> (Table, u32) {
+    let mut new = state.table;
+    let mut counter = state.counter;
+    let mut given = [0; RECORDS];
+    let mut m = 0;
+    for (s, row) in frame.chunks_exact(4).enumerate() {
+        let was = &state.table[s];
+        if row[0] == 0 {
+            new[s].id = -1;
+            continue;
+        }
+        let mut id = was.id;
+        if row[0] == 2 || id == -1 {
+            let k = choose(&state.table, &given[..m], counter);
+            id = k as i32;
+            given[m] = id;
+            m += 1;
+            counter = (k + 1) % 65536;
+        }
+        new[s] = Slot { id, x: row[1] as u32, y: row[2] as u32, pressure: row[3] as u32 };
+    }
+    (new, counter)
+}
+
+fn numbers_changed(a: &Slot, b: &Slot) -> usize {
+    (a.id != b.id) as usize + (a.x != b.x) as usize + (a.y != b.y) as usize + (a.pressure != b.pressure) as usize
+}
+
+/// The changed slots, bit s for slot s, and how many numbers changed.
+fn tally(old: &Table, new: &Table) -> (u16, usize) {
+    let mut changed = 0;
+    let mut numbers = 0;
+    for s in 0..RECORDS {
+        let d = numbers_changed(&old[s], &new[s]);
+        numbers += d;
+        if d != 0 {
+            changed |= 1 << s;
+        }
+    }
+    (changed, numbers)
+}
+
+fn put(buf: &mut [u8], at: &mut usize, kind: u16, code: u16, value: i32) {
+    let b = &mut buf[*at..*at + 8];
+    b[0..2].copy_from_slice(&kind.to_le_bytes());
+    b[2..4].copy_from_slice(&code.to_le_bytes());
+    b[4..8].copy_from_slice(&value.to_le_bytes());
+    *at += 8;
+}
+
+fn put_changes(buf: &mut [u8], at: &mut usize, old: &Slot, new: &Slot) {
+    if old.id != new.id {
+        put(buf, at, 3, 0x39, new.id);
+    }
+    if old.x != new.x {
+        put(buf, at, 3, 0x35, new.x as i32);
+    }
+    if old.y != new.y {
+        put(buf, at, 3, 0x36, new.y as i32);
+    }
+    if old.pressure != new.pressure {
+        put(buf, at, 3, 0x3a, new.pressure as i32);
+    }
+}
+
+/// The events from `at` on; the last slot written.
+fn send(buf: &mut [u8], at: usize, old: &Table, new: &Table, current: usize, others: u16) -> usize {
+    let mut last = current;
+    let mut to = at;
+    put_changes(buf, &mut to, &old[current], &new[current]);
+    let mut left = others;
+    while left != 0 {
+        let s = left.trailing_zeros() as usize;
+        left &= left - 1;
+        put(buf, &mut to, 3, 0x2f, s as i32);
+        put_changes(buf, &mut to, &old[s], &new[s]);
+        last = s;
+    }
+    put(buf, &mut to, 0, 0, 0);
+    last
+}
+
+fn refused(state: State, number: u64, need: usize) -> Written {
+    Written { state, outcome: Err(Refused { number, need }) }
+}
+
+#[inline(never)]
+fn write(state: State, frame: &[i32], buf: &mut [u8], at: usize) -> Written {
+    if !state.well_formed() {
+        return refused(state, 2, 0);
+    }
+    if frame.len() != 4 * state.setup.n as usize {
+        return refused(state, 3, 0);
+    }
+    if !values_ok(&state.setup, frame) {
+        return refused(state, 4, 0);
+    }
+    let old = state.table;
+    let (new, counter) = plan(&state, frame);
+    let (changed, numbers) = tally(&old, &new);
+    let current = state.current as usize;
+    let others = changed & !(1 << current);
+    let count = if numbers == 0 { 0 } else { 1 + numbers + others.count_ones() as usize };
+    let need = 8 * count;
+    if at > buf.len() || buf.len() - at < need {
+        return refused(state, 5, need);
+    }
+    let last = if count == 0 { current } else { send(buf, at, &old, &new, current, others) };
+    let state = State { setup: state.setup, table: new, current: last as u32, counter };
+    Written { state, outcome: Ok(Sent { count, changed }) }
+}
+
+pub struct Copies;
+
+impl Writer for Copies {
+    fn write(state: &mut State, frame: &[i32], buf: &mut [u8], at: usize) -> Result<Sent, Refused> {
+        let written = write(*state, frame, buf, at);
+        *state = written.state;
+        written.outcome
+    }
+}
