@@ -16,8 +16,8 @@ pub enum Act {
     Bad,
     Report,
     Loss,
-    Select(panel::SlotNumber),
-    Id(panel::TrackingId),
+    Select(common::SlotNumber),
+    Id(common::TrackingId),
     X(u32),
     Y(u32),
     Pressure(u32),
@@ -42,7 +42,7 @@ fn slot_act(n: usize, value: u32) -> Act
 {
     let k = value as usize;
     if k < n {
-        return Act::Select(panel::SlotNumber(k));
+        return Act::Select(common::SlotNumber(k));
     }
     Act::Bad
 }
@@ -51,11 +51,11 @@ fn id_act(value: u32) -> Act
     ensures { λ r. ⌜ actOf r ≡ cond (fits idField (signedOf value)) (number 0 (signedOf value)) bad ⌝ }
 {
     if value == 4294967295 {
-        return Act::Id(panel::TrackingId(panel::TrackingId::UNUSED));
+        return Act::Id(common::TrackingId(common::TrackingId::UNUSED));
     }
     if value <= 65535 {
         let id = value as i32;
-        return Act::Id(panel::TrackingId(id));
+        return Act::Id(common::TrackingId(id));
     }
     Act::Bad
 }

@@ -1,11 +1,11 @@
 // Runs the bench sheet of document 01: a line for each of its Run cases, but the small program's, with every number of the answer. Reads no input.
+use common::Mode;
+use common::TrackingId;
 use panel::RECORDS;
 use panel::Setup;
 use panel::Slot;
-use panel::TrackingId;
 use pod::PodState;
 use reader::FreshAnswer;
-use reader::Mode;
 use reader::ReaderState;
 use stream::Out;
 use writer::FreshWriter;

@@ -1,11 +1,11 @@
 // States and answers as runs of numbers on the page, in the order that the script's lines have them, each number after a blank.
+use common::Counts;
+use common::Mode;
+use common::Verdict;
 use panel::RECORDS;
 use panel::Setup;
 use panel::Slot;
-use panel::Verdict;
 use pod::PodState;
-use reader::Counts;
-use reader::Mode;
 use reader::ReaderState;
 use reader::SlotAnswer;
 use stream::Out;

@@ -1,11 +1,11 @@
 // The parameters of a call, made of a line's numbers. The line was held to the call's kinds before, so nothing is cut off here.
+use common::Mode;
+use common::SlotNumber;
+use common::TrackingId;
 use panel::RECORDS;
 use panel::Setup;
 use panel::Slot;
-use panel::SlotNumber;
-use panel::TrackingId;
 use pod::PodState;
-use reader::Mode;
 use reader::ReaderState;
 use writer::WriterState;
 ghost use mathlib.Core.Path.{_≡_};

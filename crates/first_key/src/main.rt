@@ -1,5 +1,5 @@
 // A first program over the library: a hold-to-lift key that reads one finger's events. README.md shows the whole of it.
-use panel::SlotNumber;
+use common::SlotNumber;
 use reader::ReaderState;
 use reader::SlotAnswer;
 use stream::Out;

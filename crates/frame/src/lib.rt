@@ -12,7 +12,7 @@ ghost use Rattle.model.specs.Frame.{goodRow, valuesGood};
 ghost use Rattle.panel.specs.Seen.{setupOf, axesOf, panelSeen};
 use panel::Setup;
 
-// Whether v is 0 to top. The bits of a negative number are above every top, so one comparison does, where `panel::within` needs two.
+// Whether v is 0 to top. The bits of a negative number are above every top, so one comparison does, where `common::within` needs two.
 fn in_range(v: i32, top: u32) -> bool
     requires { ⌜ top < 2147483648 ⌝ }
     ensures { λ r. ⌜ r ≡ betweenZ (pos 0) (pos top) v ⌝ }
@@ -38,13 +38,13 @@ fn row_ok(setup: Setup, kind: i32, x: i32, y: i32, pressure: i32) -> bool
     requires { ⌜ (setup .x < 2147483648) × (setup .y < 2147483648) × (setup .pressure < 2147483648) ⌝ }
     ensures { λ r. ⌜ r ≡ goodRow (axesOf setup) (kind ∷ x ∷ y ∷ pressure ∷ []) ⌝ }
 {
-    if panel::same(kind, 0) {
+    if common::same(kind, 0) {
         return true;
     }
-    if panel::same(kind, 1) {
+    if common::same(kind, 1) {
         return numbers_in(setup, x, y, pressure);
     }
-    if panel::same(kind, 2) {
+    if common::same(kind, 2) {
         return numbers_in(setup, x, y, pressure);
     }
     false

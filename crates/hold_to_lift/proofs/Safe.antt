@@ -9,8 +9,9 @@ use Rattle.model.specs.Table.{Slot}
 use Rattle.model.specs.Reader.{Mode, following, dropped, stale, Lost}
 use Rattle.model.specs.States.{readerGood}
 use Rattle.model.specs.Calls.{askedIn, noSuchSlot, refused, state, askCall}
-use Rattle.runs.specs.Seen.{modeOf, seen}
-use Rattle.runs.specs.declared.ReaderState.{ReaderState}
+use Rattle.common.specs.Seen.{modeOf}
+use Rattle.reader.specs.States.{seen}
+use Rattle.reader.specs.declared.ReaderState.{ReaderState}
 use Rattle.reader.specs.Seen.{askedFrom}
 use Rattle.hold_to_lift.specs.Key.{lifts}
 use Rattle.hold_to_lift.proofs.may_lift.Reads as may-lift

@@ -2,10 +2,10 @@
 ghost use mathlib.Core.Path.{_≡_};
 ghost use Rattle.model.specs.Panel.{base};
 ghost use Rattle.model.specs.Calls.{askCall};
-ghost use Rattle.runs.specs.Seen.{seen};
+ghost use Rattle.reader.specs.States.{seen};
 ghost use Rattle.reader.specs.Seen.{askedFrom};
 ghost use Rattle.hold_to_lift.specs.Key.{lifts};
-use panel::SlotNumber;
+use common::SlotNumber;
 use reader::ReaderState;
 use reader::SlotAnswer;
 use records::Event;

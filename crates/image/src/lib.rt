@@ -13,17 +13,17 @@ fn slot_of(id: i32, x: i32, y: i32, pressure: i32) -> panel::Slot
     ensures { λ r. ⌜ r ≡ slotFrom (id ∷ x ∷ y ∷ pressure ∷ []) ⌝ }
 {
     panel::Slot {
-        id: panel::TrackingId(id),
-        x: panel::nat_of(x),
-        y: panel::nat_of(y),
-        pressure: panel::nat_of(pressure),
+        id: common::TrackingId(id),
+        x: common::nat_of(x),
+        y: common::nat_of(y),
+        pressure: common::nat_of(pressure),
     }
 }
 
 fn row_ok(setup: panel::Setup, id: i32, x: i32, y: i32, pressure: i32) -> bool
     ensures { λ r. ⌜ r ≡ goodSlot (fieldsOf setup) (id ∷ x ∷ y ∷ pressure ∷ []) ⌝ }
 {
-    if !panel::id_ok(id) {
+    if !common::id_ok(id) {
         return false;
     }
     panel::numbers_ok(setup, x, y, pressure)
@@ -70,7 +70,7 @@ pub fn image_table(setup: panel::Setup, image: &[i32]) -> [panel::Slot; panel::R
 }
 
 // Whether an image may be loaded, with this current slot.
-pub fn image_ok(setup: panel::Setup, image: &[i32], current: panel::SlotNumber) -> bool
+pub fn image_ok(setup: panel::Setup, image: &[i32], current: common::SlotNumber) -> bool
     requires { ⌜ setup .n ≤ 16 ⌝ }
     ensures { λ r. ⌜ r ≡ imageGood (panelSeen setup) (now (image .entry)) (current .0) ⌝ }
 {

@@ -12,9 +12,9 @@ use Rattle.model.specs.Loss.{isDropped, badValue, losesTrack}
 use Rattle.model.specs.States.{readerGood}
 use Rattle.model.specs.Calls.{isAccepted, loadVerdict}
 use Rattle.panel.specs.Seen.{panelSeen, unusedAll}
-use Rattle.runs.specs.declared.Mode.the-variants.{Stale}
-use Rattle.runs.specs.declared.ReaderState.{ReaderState}
-use Rattle.runs.specs.Seen.{seen}
+use Rattle.common.specs.declared.Mode.the-variants.{Stale}
+use Rattle.reader.specs.declared.ReaderState.{ReaderState}
+use Rattle.reader.specs.States.{seen}
 
 -- A reader of one slot that went stale.
 abbrev pub astray : ReaderState

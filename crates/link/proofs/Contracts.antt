@@ -4,9 +4,9 @@ use Rattle.writer.specs.declared.FreshWriter.{FreshWriter}
 use Rattle.writer.specs.declared.Written.{Written}
 use Rattle.writer.proofs.WriterState.fresh.Reads as writer-fresh
 use Rattle.writer.proofs.write.Reads as write
-use Rattle.runs.specs.declared.RunAnswer.{RunAnswer}
-use Rattle.runs.specs.declared.FreshAnswer.{FreshAnswer}
-use Rattle.runs.proofs.ReaderState.fresh.Reads as reader-fresh
+use Rattle.reader.specs.declared.RunAnswer.{RunAnswer}
+use Rattle.reader.specs.declared.FreshAnswer.{FreshAnswer}
+use Rattle.reader.proofs.ReaderState.fresh.Reads as reader-fresh
 use Rattle.reader.specs.declared.SlotAnswer.{SlotAnswer}
 use Rattle.reader.specs.declared.LoadAnswer.{LoadAnswer}
 use Rattle.reader.proofs.run.Reads as run

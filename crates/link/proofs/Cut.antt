@@ -21,9 +21,9 @@ use Rattle.panel.proofs.Setups.{holds}
 use Rattle.records.specs.declared.Event.{Event}
 use Rattle.records.specs.Seen.{eventOf}
 use Rattle.records.proofs.Over.{record-length}
-use Rattle.runs.specs.declared.ReaderState.{ReaderState}
-use Rattle.runs.specs.declared.RunAnswer.{RunAnswer}
-use Rattle.runs.specs.Seen.{seen, ranFrom}
+use Rattle.reader.specs.declared.ReaderState.{ReaderState}
+use Rattle.reader.specs.declared.RunAnswer.{RunAnswer}
+use Rattle.reader.specs.States.{seen, ranFrom}
 use Rattle.reader.proofs.Promises.{run-state, read-one-state}
 use Rattle.link.specs.Promises.{Ran, ReadOne, Sized, bytesOf, joined}
 

@@ -16,19 +16,20 @@ use Rattle.model.specs.Calls.{isAccepted, writeVerdict, writeCall, runCall, acc
 use Rattle.model.proofs.Instances.{base-good}
 use Rattle.model.proofs.Calls.{load-shows}
 use Rattle.model.proofs.Link.{run-of-written, count-is-fewest, no-fewer-records, call-verdict}
-use Rattle.panel.specs.declared.Verdict.the-variants.{Accepted}
+use Rattle.common.specs.declared.Verdict.the-variants.{Accepted}
 use Rattle.panel.specs.declared.Slot.{Slot}
-use Rattle.panel.specs.Seen.{tableOf, panelSeen, verdictOf}
-use Rattle.panel.proofs.Back.{verdict-seen}
+use Rattle.panel.specs.Seen.{tableOf, panelSeen}
+use Rattle.common.specs.Seen.{verdictOf, modeOf, countsFrom}
+use Rattle.common.proofs.Back.{verdict-seen}
 use Rattle.writer.specs.declared.WriterState.{WriterState}
 use Rattle.writer.specs.declared.Written.{Written}
 use Rattle.writer.specs.Seen as W
 use Rattle.writer.proofs.Demands.{answer-seen}
-use Rattle.runs.specs.declared.Mode.the-variants.{Following}
-use Rattle.runs.specs.declared.ReaderState.{ReaderState}
-use Rattle.runs.specs.declared.RunAnswer.{RunAnswer}
-use Rattle.runs.specs.Seen as R
-use Rattle.runs.specs.Seen.{ranFrom, countsFrom}
+use Rattle.common.specs.declared.Mode.the-variants.{Following}
+use Rattle.reader.specs.declared.ReaderState.{ReaderState}
+use Rattle.reader.specs.declared.RunAnswer.{RunAnswer}
+use Rattle.reader.specs.States as R
+use Rattle.reader.specs.States.{ranFrom}
 use Rattle.reader.specs.declared.SlotAnswer.{SlotAnswer}
 use Rattle.reader.specs.declared.LoadAnswer.{LoadAnswer}
 use Rattle.reader.specs.Seen.{askedFrom}
@@ -65,7 +66,7 @@ module _ (s : WriterState) (f : List ℤ) (at : ℕ) (buf : List ℕ) (r : Writt
 pub none-shorter : (s : WriterState) (bs : List ℕ) (q : RunAnswer) → Ran (pupilOf s) bs q → q .state .mode ≡ Following → fewest (s .current .0) (tableOf (s .table)) (tableOf (q .state .shown)) ≤ length bs / 8
 none-shorter s bs q e m =
     let x = run-state (pupilOf s) bs q e in
-    subst (λ z. fewest (s .current .0) (tableOf (s .table)) (z .reader .shown) ≤ length bs / 8) (sym x) (no-fewer-records base (W.seen s) bs (sym (ap (λ z. z .reader .mode) x) ∙ ap R.modeOf m))
+    subst (λ z. fewest (s .current .0) (tableOf (s .table)) (z .reader .shown) ≤ length bs / 8) (sym x) (no-fewer-records base (W.seen s) bs (sym (ap (λ z. z .reader .mode) x) ∙ ap modeOf m))
 
 -- So no bytes with fewer whole records than an accepted frame's count lead that reader to the frame's table and leave it following.
 pub none-fewer : (s : WriterState) (f : List ℤ) (at : ℕ) (buf : List ℕ) (r : Written) (after : List ℕ) → Wrote s f at buf r after → r .verdict ≡ Accepted

@@ -12,19 +12,20 @@ use Rattle.model.specs.Refusals.{Row, Exact, freshRows, writeRows, runRows, sta
 use Rattle.model.proofs.Calls.{ask-exact}
 use Rattle.model.proofs.Exact as M
 use Rattle.panel.specs.declared.Setup.{Setup}
-use Rattle.panel.specs.declared.Verdict.{Verdict}
-use Rattle.panel.specs.Seen.{setupOf, verdictFrom, verdictNumber}
-use Rattle.panel.proofs.Back.{number-seen}
+use Rattle.common.specs.declared.Verdict.{Verdict}
+use Rattle.panel.specs.Seen.{setupOf}
+use Rattle.common.specs.Seen.{verdictFrom, verdictNumber}
+use Rattle.common.proofs.Back.{number-seen}
 use Rattle.records.specs.declared.Event.{Event}
 use Rattle.records.specs.Seen.{eventOf}
 use Rattle.writer.specs.declared.WriterState.{WriterState}
 use Rattle.writer.specs.declared.FreshWriter.{FreshWriter}
 use Rattle.writer.specs.declared.Written.{Written}
 use Rattle.writer.specs.Seen as W
-use Rattle.runs.specs.declared.ReaderState.{ReaderState}
-use Rattle.runs.specs.declared.RunAnswer.{RunAnswer}
-use Rattle.runs.specs.declared.FreshAnswer.{FreshAnswer}
-use Rattle.runs.specs.Seen.{seen}
+use Rattle.reader.specs.declared.ReaderState.{ReaderState}
+use Rattle.reader.specs.declared.RunAnswer.{RunAnswer}
+use Rattle.reader.specs.declared.FreshAnswer.{FreshAnswer}
+use Rattle.reader.specs.States.{seen}
 use Rattle.reader.specs.declared.SlotAnswer.{SlotAnswer}
 use Rattle.reader.specs.declared.LoadAnswer.{LoadAnswer}
 use Rattle.reader.specs.Seen.{refusalOf}

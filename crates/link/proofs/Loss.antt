@@ -17,15 +17,16 @@ use Rattle.model.specs.Calls.{isAccepted, runCall, loadVerdict, loadCall}
 use Rattle.model.proofs.Instances.{base-good}
 use Rattle.model.proofs.Chain as M
 use Rattle.panel.specs.declared.Setup.{Setup}
-use Rattle.panel.specs.declared.Verdict.the-variants.{Accepted}
-use Rattle.panel.specs.Seen.{tableOf, panelSeen, verdictFrom}
+use Rattle.common.specs.declared.Verdict.the-variants.{Accepted}
+use Rattle.panel.specs.Seen.{tableOf, panelSeen}
+use Rattle.common.specs.Seen.{verdictFrom}
 use Rattle.panel.proofs.Setups.{holds}
 use Rattle.records.specs.declared.Event.{Event}
 use Rattle.records.specs.Seen.{eventOf}
-use Rattle.runs.specs.declared.ReaderState.{ReaderState}
-use Rattle.runs.specs.declared.RunAnswer.{RunAnswer}
-use Rattle.runs.specs.declared.FreshAnswer.{FreshAnswer}
-use Rattle.runs.specs.Seen.{seen, ranFrom}
+use Rattle.reader.specs.declared.ReaderState.{ReaderState}
+use Rattle.reader.specs.declared.RunAnswer.{RunAnswer}
+use Rattle.reader.specs.declared.FreshAnswer.{FreshAnswer}
+use Rattle.reader.specs.States.{seen, ranFrom}
 use Rattle.reader.specs.declared.SlotAnswer.{SlotAnswer}
 use Rattle.reader.specs.declared.SlotAnswer.the-variants.{Unknown}
 use Rattle.reader.specs.declared.LoadAnswer.{LoadAnswer}

@@ -14,10 +14,11 @@ use Rattle.model.proofs.Bools.{is-true}
 use Rattle.model.proofs.Calls.{accepted-is, fresh-reader-good, run-steady, step-steady, load-steady}
 use Rattle.model.proofs.Chain.{run-setup, step-setup, load-setup}
 use Rattle.panel.specs.declared.Setup.{Setup}
-use Rattle.panel.specs.declared.Verdict.{Verdict}
-use Rattle.panel.specs.declared.Verdict.the-variants.{Accepted}
-use Rattle.panel.specs.Seen.{setupOf, setupFrom, panelSeen, verdictOf, verdictFrom}
-use Rattle.panel.proofs.Back.{verdict-seen}
+use Rattle.common.specs.declared.Verdict.{Verdict}
+use Rattle.common.specs.declared.Verdict.the-variants.{Accepted}
+use Rattle.panel.specs.Seen.{setupOf, setupFrom, panelSeen}
+use Rattle.common.specs.Seen.{verdictOf, verdictFrom}
+use Rattle.common.proofs.Back.{verdict-seen}
 use Rattle.panel.proofs.Setups.{holds}
 use Rattle.records.specs.declared.Event.{Event}
 use Rattle.records.specs.Seen.{eventOf}
@@ -26,11 +27,11 @@ use Rattle.writer.specs.declared.FreshWriter.{FreshWriter}
 use Rattle.writer.specs.declared.Written.{Written}
 use Rattle.writer.specs.Seen as W
 use Rattle.writer.proofs.Demands.{fresh-steady, steady}
-use Rattle.runs.specs.declared.ReaderState.{ReaderState}
-use Rattle.runs.specs.declared.RunAnswer.{RunAnswer}
-use Rattle.runs.specs.declared.FreshAnswer.{FreshAnswer}
-use Rattle.runs.specs.Seen as R
-use Rattle.runs.proofs.Back.{good-seen}
+use Rattle.reader.specs.declared.ReaderState.{ReaderState}
+use Rattle.reader.specs.declared.RunAnswer.{RunAnswer}
+use Rattle.reader.specs.declared.FreshAnswer.{FreshAnswer}
+use Rattle.reader.specs.States as R
+use Rattle.reader.proofs.Held.{good-seen}
 use Rattle.reader.specs.declared.LoadAnswer.{LoadAnswer}
 use Rattle.reader.proofs.Promises.{run-state, read-one-state, load-state}
 use Rattle.link.specs.Promises.{WriterMade, Wrote, ReaderMade, Ran, ReadOne, Loaded, GoodWriter, GoodReader}

@@ -3,10 +3,10 @@ use mathlib.Core.Path.{_≡_}
 use mathlib.Core.List.{List, [], _∷_}
 use Prim.Native.Nat.{ℕ}
 use lib.IntN.{ℤ}
-use Rattle.panel.specs.declared.Verdict.the-variants.{Accepted}
+use Rattle.common.specs.declared.Verdict.the-variants.{Accepted}
 use Rattle.records.specs.declared.Event.{Event}
-use Rattle.runs.specs.declared.ReaderState.{ReaderState}
-use Rattle.runs.specs.declared.RunAnswer.{RunAnswer}
+use Rattle.reader.specs.declared.ReaderState.{ReaderState}
+use Rattle.reader.specs.declared.RunAnswer.{RunAnswer}
 use Rattle.reader.specs.declared.SlotAnswer.{SlotAnswer}
 use Rattle.reader.specs.declared.LoadAnswer.{LoadAnswer}
 use Rattle.link.specs.Promises.{Ran, ReadOne, Loaded, Asked}

@@ -19,12 +19,13 @@ use Rattle.writer.specs.declared.WriterState.{WriterState}
 use Rattle.writer.specs.declared.FreshWriter.{FreshWriter}
 use Rattle.writer.specs.declared.Written.{Written}
 use Rattle.writer.specs.Seen as W
-use Rattle.runs.specs.declared.Mode.the-variants.{Following}
-use Rattle.runs.specs.declared.ReaderState.{ReaderState}
-use Rattle.runs.specs.declared.Counts.{Counts}
-use Rattle.runs.specs.declared.RunAnswer.{RunAnswer}
-use Rattle.runs.specs.declared.FreshAnswer.{FreshAnswer}
-use Rattle.runs.specs.Seen as R
+use Rattle.common.specs.declared.Mode.the-variants.{Following}
+use Rattle.common.specs.Seen.{modeOf}
+use Rattle.reader.specs.declared.ReaderState.{ReaderState}
+use Rattle.common.specs.declared.Counts.{Counts}
+use Rattle.reader.specs.declared.RunAnswer.{RunAnswer}
+use Rattle.reader.specs.declared.FreshAnswer.{FreshAnswer}
+use Rattle.reader.specs.States as R
 use Rattle.reader.specs.declared.SlotAnswer.{SlotAnswer}
 use Rattle.reader.specs.declared.LoadAnswer.{LoadAnswer}
 use Rattle.reader.specs.Seen.{loadedFrom, askedFrom}
@@ -73,7 +74,7 @@ GoodReader s = readerGood base (R.seen s) ≡ true
 
 -- The reader lost track.
 abbrev pub LostTrack : ReaderState → Type 0
-LostTrack s = Lost (R.modeOf (s .mode))
+LostTrack s = Lost (modeOf (s .mode))
 
 -- A record whose numbers have the widths of their types.
 pub record Sized (e : Event) : Type 0 where

@@ -17,8 +17,9 @@ use Rattle.model.specs.Numbers.{eqZ, minusOne}
 use Rattle.model.specs.Table.{live, unheld, liveDiffer, ids}
 use Rattle.model.proofs.Bools.{is-true, is-false, and-left, and-right, eqZ→eq, eqZ-refl}
 use Rattle.panel.specs.declared.Slot as S
-use Rattle.panel.specs.Seen.{natural, tableOf, blank, unused, unusedAll, sameFrom}
-use Rattle.panel.proofs.Signs.{and-false, and-true}
+use Rattle.common.specs.Seen.{natural}
+use Rattle.panel.specs.Seen.{tableOf, blank, unused, unusedAll, sameFrom}
+use Rattle.common.proofs.Signs.{and-false, and-true}
 use Rattle.panel.proofs.Setups.{holds}
 use Rattle.panel.proofs.Tables.{rest-is}
 

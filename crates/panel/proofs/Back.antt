@@ -1,4 +1,4 @@
--- What is seen of a value and held again is the value, whatever it is: so a refusal hands a state back unchanged. And what is held of a verdict or of good records is seen again. Cited by the reader, the writer and link. Assumes nothing.
+-- What is seen of a value and held again is the value, whatever it is: so a refusal hands a state back unchanged. And what is held of good records is seen again. Cited by the reader, the writer and link. Assumes nothing.
 use mathlib.Core.Path.{_≡_, refl, sym, ap, ap₂, _∙_}
 use mathlib.Core.List.{List, [], _∷_}
 use Prim.Native.Nat.{ℕ, zero, suc}
@@ -7,15 +7,13 @@ use lib.IntN.{ℤ, pos, negsuc}
 use Rattle.model.specs.Numbers.{betweenZ}
 use Rattle.model.specs.Panel.{idField}
 use Rattle.model.specs.Table as M
-use Rattle.model.specs.Calls as C
 use Rattle.model.specs.Table.{fits, goodSlot, unusedSlot, eqSlot, goodPlace, goodRecords}
 use Rattle.model.proofs.Bools.{both-left, both-right}
 use Rattle.model.proofs.Tables.{eqSlot→eq}
 use Rattle.panel.specs.declared.Slot.{Slot}
 use Rattle.panel.specs.declared.Setup.{Setup}
-use Rattle.panel.specs.declared.Verdict.{Verdict}
-use Rattle.panel.specs.declared.Verdict.the-variants as W
-use Rattle.panel.specs.Seen.{natural, slotOf, tableOf, slotFrom, tableFrom, setupOf, setupFrom, fieldsOf, verdictOf, verdictFrom, verdictNumber}
+use Rattle.common.specs.Seen.{natural}
+use Rattle.panel.specs.Seen.{slotOf, tableOf, slotFrom, tableFrom, setupOf, setupFrom, fieldsOf}
 
 pub table-back : (t : List Slot) → tableFrom (tableOf t) ≡ t
 table-back [] = refl
@@ -24,33 +22,7 @@ table-back (s ∷ t) = ap {B = List Slot} (λ l. s ∷ l) (table-back t)
 pub setup-back : (u : Setup) → setupFrom (setupOf u) ≡ u
 setup-back u = refl
 
-pub verdict-back : (v : Verdict) → verdictFrom (verdictOf v) ≡ v
-verdict-back W.Accepted = refl
-verdict-back W.Setup = refl
-verdict-back W.State = refl
-verdict-back W.Frame = refl
-verdict-back W.Value = refl
-verdict-back W.NoRoom = refl
-verdict-back W.Ragged = refl
-verdict-back W.NotStale = refl
-verdict-back W.Image = refl
-
 -- ---- held and seen again
-
-pub verdict-seen : (v : C.Verdict) → verdictOf (verdictFrom v) ≡ v
-verdict-seen C.accepted = refl
-verdict-seen C.setup = refl
-verdict-seen C.state = refl
-verdict-seen C.frame = refl
-verdict-seen C.value = refl
-verdict-seen C.noRoom = refl
-verdict-seen C.ragged = refl
-verdict-seen C.notStale = refl
-verdict-seen C.image = refl
-
--- So the number of what is held of a verdict is document 01's.
-pub number-seen : (v : C.Verdict) → verdictNumber (verdictFrom v) ≡ C.verdictNumber v
-number-seen v = ap C.verdictNumber (verdict-seen v)
 
 own-number : (top : ℕ) (v : ℤ) → T (betweenZ (pos 0) (pos top) v) → pos (natural v) ≡ v
 own-number top (pos n) t = refl

@@ -1,5 +1,5 @@
 -- The laws behind the panel's functions; other crates cite them too.
-pub mod Signs
+pub mod Lent
 pub mod Slots
 pub mod Tables
 pub mod Apart

@@ -8,7 +8,7 @@ use Rattle.model.specs.Panel.{base, setupGood}
 use Rattle.model.proofs.Bools.{both-left, both-right}
 use Rattle.panel.specs.declared.Setup.{Setup}
 use Rattle.panel.specs.Seen.{setupOf}
-use Rattle.panel.proofs.Signs.{and-true}
+use Rattle.common.proofs.Signs.{and-true}
 
 pub holds : (b : Bool) → b ≡ true → T b
 holds b e = subst T (sym e) tt

@@ -16,7 +16,7 @@ use Rattle.model.specs.Table.{fits, goodSlot, eqSlot}
 use Rattle.panel.specs.declared.Slot.{Slot}
 use Rattle.panel.specs.declared.Setup.{Setup}
 use Rattle.panel.specs.Seen.{slotOf, fieldsOf, axesOf}
-use Rattle.panel.proofs.Signs.{first-false, and-false, and-true}
+use Rattle.common.proofs.Signs.{first-false, and-false, and-true}
 
 -- ---- a number that is not negative is good up to its largest value
 

@@ -1,22 +1,14 @@
 -- The panel's promises leave no choice: each law is of the contract itself. Assumes nothing.
 use mathlib.Core.Path.{sym, _∙_}
 use Rattle.model.specs.Unique.{OneAnswer}
-use Rattle.panel.proofs.Verdict.number.Reads as number
 use Rattle.panel.proofs.Slot.unused.Reads as unused
 use Rattle.panel.proofs.unused_table.Reads as unused-table
 use Rattle.panel.proofs.zero_table.Reads as zero-table
-use Rattle.panel.proofs.same.Reads as same
-use Rattle.panel.proofs.nat_of.Reads as nat-of
-use Rattle.panel.proofs.within.Reads as within
 use Rattle.panel.proofs.setup_ok.Reads as setup-ok
-use Rattle.panel.proofs.id_ok.Reads as id-ok
 use Rattle.panel.proofs.numbers_ok.Reads as numbers-ok
 use Rattle.panel.proofs.table_ok.Reads as table-ok
 use Rattle.panel.proofs.ids_differ.Reads as ids-differ
 use Rattle.panel.proofs.tables_same.Reads as tables-same
-
-pub number-one : OneAnswer number.Learnt
-number-one κs a r q s t e g = e ∙ sym g
 
 pub unused-one : OneAnswer unused.Learnt
 unused-one κs a r q s t e g = e ∙ sym g
@@ -27,20 +19,8 @@ unused-table-one κs a r q s t e g = e ∙ sym g
 pub zero-table-one : OneAnswer zero-table.Learnt
 zero-table-one κs a r q s t e g = e ∙ sym g
 
-pub same-one : OneAnswer same.Learnt
-same-one κs a r q s t e g = e ∙ sym g
-
-pub nat-of-one : OneAnswer nat-of.Learnt
-nat-of-one κs a r q s t e g = e ∙ sym g
-
-pub within-one : OneAnswer within.Learnt
-within-one κs a r q s t e g = e ∙ sym g
-
 pub setup-ok-one : OneAnswer setup-ok.Learnt
 setup-ok-one κs a r q s t e g = e ∙ sym g
-
-pub id-ok-one : OneAnswer id-ok.Learnt
-id-ok-one κs a r q s t e g = e ∙ sym g
 
 pub numbers-ok-one : OneAnswer numbers-ok.Learnt
 numbers-ok-one κs a r q s t e g = e ∙ sym g

@@ -1,18 +1,16 @@
--- The code's slots, tables, setups and verdicts as the model's, and back. Every code crate's contracts go through it. Assumes nothing.
+-- The code's slots, tables and setups as the model's, and back. Every code crate's contracts go through it. Assumes nothing.
 use mathlib.Core.Path.{_≡_}
 use mathlib.Core.List.{List, [], _∷_, map}
 use Prim.Native.Nat.{ℕ}
-use lib.IntN.{ℤ, pos, negsuc}
+use lib.IntN.{pos}
 use lib.ListN.{getD, drop, replicate}
 use Rattle.model.specs.Numbers.{minusOne}
 use Rattle.model.specs.Panel as P
 use Rattle.model.specs.Table as T
 use Rattle.model.specs.Frame as F
-use Rattle.model.specs.Calls as C
+use Rattle.common.specs.Seen.{natural}
 use Rattle.panel.specs.declared.Slot.{Slot}
 use Rattle.panel.specs.declared.Setup.{Setup}
-use Rattle.panel.specs.declared.Verdict.{Verdict}
-use Rattle.panel.specs.declared.Verdict.the-variants as W
 
 -- ---- slots and tables
 
@@ -23,11 +21,6 @@ slotOf s = s .id .0 ∷ pos (s .x) ∷ pos (s .y) ∷ pos (s .pressure) ∷ []
 -- All records of a table.
 abbrev pub tableOf : List Slot → T.Table
 tableOf t = map slotOf t
-
--- A number that is not negative; 0 for any other.
-abbrev pub natural : ℤ → ℕ
-natural (pos n) = n
-natural (negsuc n) = 0
 
 -- The slot that holds four numbers; a number that is missing counts as 0, a missing id as unused.
 abbrev pub slotFrom : T.Slot → Slot
@@ -78,33 +71,3 @@ fieldsOf u = panelSeen u .fields
 -- The fields after the id.
 abbrev pub axesOf : Setup → List P.Field
 axesOf u = F.axesOf (fieldsOf u)
-
--- ---- verdicts
-
--- A verdict's name.
-abbrev pub verdictOf : Verdict → C.Verdict
-verdictOf W.Accepted = C.accepted
-verdictOf W.Setup = C.setup
-verdictOf W.State = C.state
-verdictOf W.Frame = C.frame
-verdictOf W.Value = C.value
-verdictOf W.NoRoom = C.noRoom
-verdictOf W.Ragged = C.ragged
-verdictOf W.NotStale = C.notStale
-verdictOf W.Image = C.image
-
--- The verdict of such a name.
-abbrev pub verdictFrom : C.Verdict → Verdict
-verdictFrom C.accepted = W.Accepted
-verdictFrom C.setup = W.Setup
-verdictFrom C.state = W.State
-verdictFrom C.frame = W.Frame
-verdictFrom C.value = W.Value
-verdictFrom C.noRoom = W.NoRoom
-verdictFrom C.ragged = W.Ragged
-verdictFrom C.notStale = W.NotStale
-verdictFrom C.image = W.Image
-
--- Document 01's number of a verdict; 0 for accepted.
-abbrev pub verdictNumber : Verdict → ℕ
-verdictNumber v = C.verdictNumber (verdictOf v)

@@ -2,21 +2,11 @@
 ghost use mathlib.Core.Path.{_≡_};
 ghost use mathlib.Core.List.{_∷_, []};
 ghost use Prim.Native.Nat.{_<_, _≤_};
-ghost use lib.IntN.{pos};
 ghost use lib.ListN.{take, drop};
-ghost use Rattle.model.specs.Numbers.{eqZ, between as betweenN, betweenZ};
-ghost use Rattle.model.specs.Panel.{base, setupGood, idField};
-ghost use Rattle.model.specs.Table.{ids, unheld, fits, goodSlot, eqSlot, eqTable, idsDiffer as idsApart, goodRecords};
-ghost use Rattle.panel.specs.Seen.{natural, slotOf, tableOf, setupOf, fieldsOf, axesOf, unused, unusedAll, sameFrom, zeros, verdictNumber};
-
-// A slot number and a tracking id are kinds of number that must not be mixable: a lifted id taken for a slot would move another finger.
-pub struct SlotNumber(pub usize);
-
-pub struct TrackingId(pub i32);
-
-impl TrackingId {
-    pub const UNUSED: i32 = -1;
-}
+ghost use Rattle.model.specs.Panel.{base, setupGood};
+ghost use Rattle.model.specs.Table.{ids, unheld, goodSlot, eqSlot, eqTable, idsDiffer as idsApart, goodRecords};
+ghost use Rattle.panel.specs.Seen.{slotOf, tableOf, setupOf, fieldsOf, axesOf, unused, unusedAll, sameFrom, zeros};
+use common::TrackingId;
 
 // How many slot records a table holds.
 pub const RECORDS: usize = 16;
@@ -39,38 +29,6 @@ pub struct Setup {
     pub x: u32,
     pub y: u32,
     pub pressure: u32,
-}
-
-// A call is accepted, or refused by document 01's name.
-pub enum Verdict {
-    Accepted,
-    Setup,
-    State,
-    Frame,
-    Value,
-    NoRoom,
-    Ragged,
-    NotStale,
-    Image,
-}
-
-impl Verdict {
-    // Document 01's number of a refusal; 0 where the call was accepted.
-    pub fn number(self) -> u8
-        ensures { λ r. ⌜ r ≡ verdictNumber self ⌝ }
-    {
-        match self {
-            Verdict::Accepted => 0,
-            Verdict::Setup => 1,
-            Verdict::State => 2,
-            Verdict::Frame => 3,
-            Verdict::Value => 4,
-            Verdict::NoRoom => 5,
-            Verdict::Ragged => 6,
-            Verdict::NotStale => 7,
-            Verdict::Image => 8,
-        }
-    }
 }
 
 impl Slot {
@@ -106,84 +64,39 @@ pub fn zero_table() -> [Slot; RECORDS]
     [z; RECORDS]
 }
 
-pub fn same(a: i32, b: i32) -> bool
-    ensures { λ r. ⌜ r ≡ eqZ a b ⌝ }
-{
-    a == b
-}
-
-// A number that is not negative; 0 for any other.
-pub fn nat_of(v: i32) -> u32
-    ensures { λ r. ⌜ r ≡ natural v ⌝ }
-{
-    if v < 0 {
-        return 0;
-    }
-    v as u32
-}
-
-// Whether v is 0 to top.
-pub fn within(v: i32, top: u32) -> bool
-    ensures { λ r. ⌜ r ≡ betweenZ (pos 0) (pos top) v ⌝ }
-{
-    if v < 0 {
-        return false;
-    }
-    nat_of(v) <= top
-}
-
-// Whether v is 1 to top.
-fn between(v: usize, top: usize) -> bool
-    ensures { λ r. ⌜ r ≡ betweenN 1 top v ⌝ }
-{
-    if v < 1 {
-        return false;
-    }
-    v <= top
-}
-
 pub fn setup_ok(s: Setup) -> bool
     ensures { λ r. ⌜ r ≡ setupGood base (setupOf s) ⌝ }
 {
-    if !between(s.n, RECORDS) {
+    if !common::between(s.n, RECORDS) {
         return false;
     }
-    if !between(s.x as usize, MOST_POSITION) {
+    if !common::between(s.x as usize, MOST_POSITION) {
         return false;
     }
-    if !between(s.y as usize, MOST_POSITION) {
+    if !common::between(s.y as usize, MOST_POSITION) {
         return false;
     }
-    between(s.pressure as usize, MOST_PRESSURE)
-}
-
-pub fn id_ok(v: i32) -> bool
-    ensures { λ r. ⌜ r ≡ fits idField v ⌝ }
-{
-    if v < -1 {
-        return false;
-    }
-    v <= 65535
+    common::between(s.pressure as usize, MOST_PRESSURE)
 }
 
 // Whether x, y and pressure, as they came in, are in their ranges.
 pub fn numbers_ok(setup: Setup, x: i32, y: i32, pressure: i32) -> bool
     ensures { λ r. ⌜ r ≡ goodSlot (axesOf setup) (x ∷ y ∷ pressure ∷ []) ⌝ }
 {
-    if !within(x, setup.x) {
+    if !common::within(x, setup.x) {
         return false;
     }
-    if !within(y, setup.y) {
+    if !common::within(y, setup.y) {
         return false;
     }
-    within(pressure, setup.pressure)
+    common::within(pressure, setup.pressure)
 }
 
 fn slot_ok(setup: Setup, s: Slot) -> bool
     ensures { λ r. ⌜ r ≡ goodSlot (fieldsOf setup) (slotOf s) ⌝ }
 {
     let id = s.id;
-    if !id_ok(id.0) {
+    if !common::id_ok(id.0) {
         return false;
     }
     if setup.x < s.x {
@@ -200,7 +113,7 @@ fn slots_same(a: Slot, b: Slot) -> bool
 {
     let p = a.id;
     let q = b.id;
-    if !same(p.0, q.0) {
+    if !common::same(p.0, q.0) {
         return false;
     }
     if a.x != b.x {
@@ -268,7 +181,7 @@ fn unheld_before(t: [Slot; RECORDS], k: usize, v: i32) -> bool
     while j < k {
         let o = t[j];
         let p = o.id;
-        if same(v, p.0) {
+        if common::same(v, p.0) {
             return false;
         }
         j += 1;
@@ -289,8 +202,8 @@ pub fn ids_differ(n: usize, t: [Slot; RECORDS]) -> bool
         let q = c.id;
         let v = q.0;
         k += 1;
-        if !same(v, -1) {
-            let bit = 1u64 << (nat_of(v) % 64);
+        if !common::same(v, -1) {
+            let bit = 1u64 << (common::nat_of(v) % 64);
             if met & bit == 0 {
                 met = met | bit;
             } else {

@@ -9,9 +9,9 @@ ghost use Rattle.model.specs.Table.{ids, unheld};
 ghost use Rattle.model.specs.Frame.{fate, freeId, next, rowsFrom, newTable, newCounter};
 ghost use Rattle.panel.specs.Seen.{tableOf, unusedAll, sameFrom};
 ghost use Rattle.plan.specs.Row.{begun, held, stayed, plainRows};
+use common::TrackingId;
 use panel::RECORDS;
 use panel::Slot;
-use panel::TrackingId;
 
 // The most ids that are taken in a frame: every old one, and one given to each slot.
 const TAKEN: usize = 2 * RECORDS;
@@ -24,7 +24,7 @@ fn absent(taken: &[i32], v: TrackingId) -> bool
     let mut found = false;
     let mut j: usize = 0;
     while j < taken.len() {
-        found = found | panel::same(id, taken[j]);
+        found = found | common::same(id, taken[j]);
         j += 1;
     }
     !found
@@ -83,13 +83,13 @@ fn ids_of(n: usize, t: [Slot; RECORDS]) -> [i32; TAKEN]
 fn begins(kind: i32, id: TrackingId) -> bool
     ensures { λ r. ⌜ r ≡ begun (fate kind (id .0)) ⌝ }
 {
-    if panel::same(kind, 0) {
+    if common::same(kind, 0) {
         return false;
     }
-    if panel::same(kind, 2) {
+    if common::same(kind, 2) {
         return true;
     }
-    panel::same(id.0, TrackingId::UNUSED)
+    common::same(id.0, TrackingId::UNUSED)
 }
 
 // A slot that has a contact: its id and the frame's numbers, which are not negative, so that their bits are they themselves.
@@ -111,7 +111,7 @@ fn contact(id: TrackingId, x: i32, y: i32, pressure: i32) -> Slot
 fn stays(kind: i32, was: Slot, x: i32, y: i32, pressure: i32) -> Slot
     ensures { λ r. ⌜ r ≡ stayed (eqZ kind (pos 0)) was x y pressure ⌝ }
 {
-    if panel::same(kind, 0) {
+    if common::same(kind, 0) {
         return Slot {
             id: TrackingId(TrackingId::UNUSED),
             x: was.x,

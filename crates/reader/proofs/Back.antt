@@ -14,8 +14,8 @@ use Rattle.model.specs.Calls.{askedNumber, askedValues, askedIn, asked, askCall
 use Rattle.model.proofs.Calls.{by-verdict}
 use Rattle.panel.specs.Seen.{slotOf, tableOf}
 use Rattle.panel.specs.declared.Slot.{Slot}
-use Rattle.runs.specs.declared.ReaderState.{ReaderState}
-use Rattle.runs.specs.Seen.{seen}
+use Rattle.reader.specs.declared.ReaderState.{ReaderState}
+use Rattle.reader.specs.States.{seen}
 use Rattle.reader.specs.declared.SlotAnswer.{SlotAnswer}
 use Rattle.reader.specs.Seen.{askedFrom, answerSeen, AnswersAs}
 

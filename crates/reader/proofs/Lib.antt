@@ -3,6 +3,7 @@
 -- Back: what is held of the model's answer to a question is seen again.
 -- Promises: the number and the values of a question, and the state after each call.
 -- Unique: any two answers that a promise allows are equal.
+pub mod Held
 pub mod States
 pub mod Back
 pub mod Promises

@@ -14,10 +14,10 @@ use Rattle.model.specs.Calls.{check, isAccepted, runVerdict, runCall, stepCall,
 use Rattle.model.proofs.Calls.{passed, by-verdict, events-steady, loaded-steady}
 use Rattle.records.specs.declared.Event.{Event}
 use Rattle.records.specs.Seen.{eventOf}
-use Rattle.runs.specs.declared.ReaderState.{ReaderState}
-use Rattle.runs.specs.declared.RunAnswer.{RunAnswer}
-use Rattle.runs.specs.Seen.{seen, held, ranFrom}
-use Rattle.runs.proofs.Back.{state-back, good-seen}
+use Rattle.reader.specs.declared.ReaderState.{ReaderState}
+use Rattle.reader.specs.declared.RunAnswer.{RunAnswer}
+use Rattle.reader.specs.States.{seen, held, ranFrom}
+use Rattle.reader.proofs.Held.{state-back, good-seen}
 use Rattle.reader.specs.declared.LoadAnswer.{LoadAnswer}
 use Rattle.reader.specs.Seen.{loadedFrom, answerSeen, refusalOf, valuesOf}
 use Rattle.reader.proofs.Back.{back-call}

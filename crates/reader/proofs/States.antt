@@ -7,7 +7,7 @@ use native.Mathlib.Omega.{arith}
 use lib.Dec.{T, ltb, eqb→eq}
 use lib.IntN.{ℤ}
 use lib.ListN.{length}
-use Rattle.model.specs.Panel.{base, setupGood}
+use Rattle.model.specs.Panel.{Panel, base, setupGood}
 use Rattle.model.specs.Table.{Table, idsDiffer, goodTable}
 use Rattle.model.specs.Frame.{sized}
 use Rattle.model.specs.Records.{eventsFrom, eventsOf, recordBytes}
@@ -26,12 +26,16 @@ use Rattle.records.specs.Seen.{over, eventOf}
 use Rattle.records.specs.declared.Event.{Event}
 use Rattle.records.proofs.Over.{record-length, over-same}
 use Rattle.records.proofs.RoundTrip.{put-then-read}
-use Rattle.runs.specs.declared.Mode.{Mode}
-use Rattle.runs.specs.declared.Mode.the-variants.{Following}
-use Rattle.runs.specs.declared.ReaderState.{ReaderState}
-use Rattle.runs.specs.Seen.{modeOf, readerOf, seen}
-use Rattle.runs.specs.Runs.{onward, answered}
-use Rattle.runs.proofs.Runs.{onward-start}
+use Rattle.common.specs.declared.Mode.{Mode}
+use Rattle.common.specs.declared.Mode.the-variants.{Following}
+use Rattle.reader.specs.declared.ReaderState.{ReaderState}
+use Rattle.common.specs.Seen.{modeOf}
+use Rattle.follow.specs.Seen.{readerOf}
+use Rattle.follow.specs.declared.Ended.{Ended}
+use Rattle.follow.specs.Runs.{onward, endedFrom, lostAt}
+use Rattle.follow.proofs.Runs.{onward-start}
+use Rattle.follow.proofs.Turns.{lost-ended}
+use Rattle.reader.specs.States.{seen, answered, accepted}
 
 settles : (m : R.Mode) (s p : Table) → T (settled m s p) → Lost m → p ≡ s
 settles R.following s p t l = absurd l
@@ -57,21 +61,27 @@ module _ (s : ReaderState) (g : readerGood base (seen s) ≡ true) where
 -- ---- a run, by the mode that it finds
 
 module _ (s : ReaderState) (bs : List ℕ) where
+  abbrev panel : Panel
+  panel = panelSeen (s .setup)
+
+  -- An answer that holds a run's end is the model's.
+  pub ran-is : (e : Ended) (r : R.Run) → e ≡ endedFrom r → accepted (s .setup) e ≡ answered (s .setup) r
+  ran-is e r q = ap (accepted (s .setup)) q
+
   pub follow-run : s .mode ≡ Following
-      → answered (s .setup) (onward (panelSeen (s .setup)) (readerOf (s .shown) (s .pending) (s .current .0) R.following) R.nothing (eventsOf bs))
-      ≡ answered (s .setup) (R.run (panelSeen (s .setup)) (seen s .reader) (eventsOf bs))
+      → onward panel (readerOf (s .shown) (s .pending) (s .current .0) R.following) R.nothing (eventsOf bs) ≡ R.run panel (seen s .reader) (eventsOf bs)
   follow-run e =
-      ap (answered (s .setup)) (onward-start (panelSeen (s .setup)) (readerOf (s .shown) (s .pending) (s .current .0) R.following) (eventsOf bs)
-      ∙ ap (λ m. R.run (panelSeen (s .setup)) (readerOf (s .shown) (s .pending) (s .current .0) (modeOf m)) (eventsOf bs)) (sym e))
+      onward-start panel (readerOf (s .shown) (s .pending) (s .current .0) R.following) (eventsOf bs)
+      ∙ ap (λ m. R.run panel (readerOf (s .shown) (s .pending) (s .current .0) (modeOf m)) (eventsOf bs)) (sym e)
 
   pub lost-run : (m : Mode) → readerGood base (seen s) ≡ true → s .mode ≡ m → Lost (modeOf m)
-      → answered (s .setup) (onward (panelSeen (s .setup)) (R.settledAt (tableOf (s .shown)) (s .current .0) (modeOf m)) R.nothing (eventsFrom (length bs / 8 - 0) bs (8 * 0)))
-      ≡ answered (s .setup) (R.run (panelSeen (s .setup)) (seen s .reader) (eventsOf bs))
+      → lostAt (s .shown) (s .current) (modeOf m) R.nothing (eventsFrom (length bs / 8 - 0) bs (8 * 0)) ≡ endedFrom (R.run panel (seen s .reader) (eventsOf bs))
   lost-run m g e l =
       let z : length bs / 8 - 0 ≡ length bs / 8 = omega arith in
       let p : tableOf (s .pending) ≡ tableOf (s .shown) = good-settled s g (subst (λ q. Lost (modeOf q)) (sym e) l) in
-      rw z (ap (answered (s .setup)) (onward-start (panelSeen (s .setup)) (R.settledAt (tableOf (s .shown)) (s .current .0) (modeOf m)) (eventsOf bs)
-      ∙ ap₂ (λ t q. R.run (panelSeen (s .setup)) (record { shown = tableOf (s .shown); pending = t; current = s .current .0; mode = modeOf q }) (eventsOf bs)) (sym p) (sym e)))
+      let whole = onward-start panel (R.settledAt (tableOf (s .shown)) (s .current .0) (modeOf m)) (eventsOf bs) in
+      let state = ap₂ (λ t q. R.run panel (record { shown = tableOf (s .shown); pending = t; current = s .current .0; mode = modeOf q }) (eventsOf bs)) (sym p) (sym e) in
+      rw z (lost-ended panel (s .shown) (s .current .0) (modeOf m) 0 0 0 (eventsOf bs) l ∙ ap endedFrom (whole ∙ state))
 
 -- ---- one record, and an image's length
 

@@ -5,13 +5,15 @@ use Prim.Native.Nat.{ℕ}
 use lib.IntN.{ℤ}
 use Rattle.model.specs.Reader as R
 use Rattle.model.specs.Calls as C
-use Rattle.panel.specs.Seen.{slotOf, slotFrom, setupOf, panelSeen, verdictOf, verdictFrom}
+use Rattle.panel.specs.Seen.{slotOf, slotFrom, setupOf, panelSeen}
+use Rattle.common.specs.Seen.{verdictOf, verdictFrom}
 use Rattle.panel.specs.declared.Setup.{Setup}
-use Rattle.panel.specs.declared.Verdict.{Verdict}
-use Rattle.panel.specs.declared.Verdict.the-variants as W
-use Rattle.runs.specs.Seen.{held, countsFrom}
-use Rattle.runs.specs.declared.ReaderState.{ReaderState}
-use Rattle.runs.specs.declared.RunAnswer.{RunAnswer}
+use Rattle.common.specs.declared.Verdict.{Verdict}
+use Rattle.common.specs.declared.Verdict.the-variants as W
+use Rattle.reader.specs.States.{held}
+use Rattle.common.specs.Seen.{countsFrom}
+use Rattle.reader.specs.declared.ReaderState.{ReaderState}
+use Rattle.reader.specs.declared.RunAnswer.{RunAnswer}
 use Rattle.reader.specs.declared.LoadAnswer.{LoadAnswer}
 use Rattle.reader.specs.declared.SlotAnswer.{SlotAnswer}
 use Rattle.reader.specs.declared.SlotAnswer.the-variants.{Contact, Empty, Unknown, NoSuchSlot, Refused}

@@ -6,39 +6,107 @@ ghost use Prim.Native.Nat.{_<_, _≤_, _*_};
 ghost use lib.ListN.{length, getD};
 ghost use Rattle.model.specs.Panel.{base};
 ghost use Rattle.model.specs.Records.{eventsOf};
-ghost use Rattle.model.specs.Reader.{following, run as runOver};
+ghost use Rattle.model.specs.Reader.{following, nothing, run as runOver};
 ghost use Rattle.model.specs.States.{settled, readerGood, goodReader};
-ghost use Rattle.model.specs.Calls.{runCall, stepCall, isStale as staleMode, loadCall, askCall, askedIn};
-ghost use Rattle.panel.specs.Seen.{slotOf, tableOf, panelSeen, sameFrom};
+ghost use Rattle.model.specs.Calls.{freshReaderCall, runCall, stepCall, isStale as staleMode, loadCall, askCall, askedIn};
+ghost use Rattle.common.specs.Seen.{modeOf, countsFrom};
+ghost use Rattle.panel.specs.Seen.{slotOf, tableOf, setupOf, panelSeen, sameFrom};
 ghost use Rattle.records.specs.Seen.{eventOf};
-ghost use Rattle.runs.specs.Seen.{modeOf, seen, ranFrom};
-ghost use Rattle.runs.specs.Runs.{answered};
+ghost use Rattle.reader.specs.States.{seen, given, noState, freshFrom, ranFrom, answered, accepted};
 ghost use Rattle.reader.specs.Seen.{loadedFrom, askedFrom, AnswersAs, refusedRun, loadTaken};
-pub use runs::Counts;
-pub use runs::FreshAnswer;
-pub use runs::Mode;
-pub use runs::ReaderState;
-pub use runs::RunAnswer;
+use common::Counts;
+use common::Mode;
+use common::SlotNumber;
+use common::TrackingId;
+use common::Verdict;
+use follow::Ended;
+use panel::RECORDS;
+use panel::Setup;
+use panel::Slot;
+
+pub struct ReaderState {
+    pub setup: Setup,
+    pub shown: [Slot; RECORDS],
+    pub pending: [Slot; RECORDS],
+    pub current: SlotNumber,
+    pub mode: Mode,
+}
+
+pub struct FreshAnswer {
+    pub verdict: Verdict,
+    pub state: ReaderState,
+}
+
+pub struct RunAnswer {
+    pub verdict: Verdict,
+    pub state: ReaderState,
+    pub counts: Counts,
+}
 
 pub struct LoadAnswer {
-    pub verdict: panel::Verdict,
+    pub verdict: Verdict,
     pub state: ReaderState,
 }
 
 pub enum SlotAnswer {
-    Contact(panel::Slot),
+    Contact(Slot),
     Empty,
     Unknown,
     NoSuchSlot,
-    Refused(panel::Verdict),
+    Refused(Verdict),
+}
+
+// What stands in a state's place with refusal 1.
+fn no_state() -> ReaderState
+    ensures { λ r. ⌜ r ≡ noState ⌝ }
+{
+    let t = panel::zero_table();
+    ReaderState {
+        setup: Setup {
+            n: 0,
+            x: 0,
+            y: 0,
+            pressure: 0,
+        },
+        shown: t,
+        pending: t,
+        current: SlotNumber(0),
+        mode: Mode::Following,
+    }
+}
+
+impl ReaderState {
+    // The fresh state of a panel, for any four numbers: refusal 1.
+    pub fn fresh(n: usize, x: u32, y: u32, pressure: u32) -> FreshAnswer
+        ensures { λ r. ⌜ r ≡ freshFrom (freshReaderCall base (setupOf (given n x y pressure))) ⌝ }
+    {
+        let setup = Setup { n, x, y, pressure };
+        if !panel::setup_ok(setup) {
+            return FreshAnswer {
+                verdict: Verdict::Setup,
+                state: no_state(),
+            };
+        }
+        let t = panel::unused_table();
+        FreshAnswer {
+            verdict: Verdict::Accepted,
+            state: ReaderState {
+                setup,
+                shown: t,
+                pending: t,
+                current: SlotNumber(0),
+                mode: Mode::Following,
+            },
+        }
+    }
 }
 
 // Whether nothing is pending where the mode says so.
 fn settled_ok(
     m: Mode,
     n: usize,
-    shown: [panel::Slot; panel::RECORDS],
-    pending: [panel::Slot; panel::RECORDS],
+    shown: [Slot; panel::RECORDS],
+    pending: [Slot; panel::RECORDS],
 ) -> bool
     requires { ⌜ (n ≤ 16) × sameFrom n shown pending ⌝ }
     ensures { λ r. ⌜ r ≡ settled (modeOf m) (tableOf shown) (tableOf pending) ⌝ }
@@ -85,18 +153,46 @@ pub fn state_ok(s: ReaderState) -> bool
     tables_ok(s)
 }
 
-fn run_refused(state: ReaderState, verdict: panel::Verdict) -> RunAnswer
+fn none() -> Counts
+    ensures { λ r. ⌜ r ≡ countsFrom nothing ⌝ }
+{
+    Counts {
+        shown: 0,
+        skipped: 0,
+        bad: 0,
+        ignored: 0,
+    }
+}
+
+fn run_refused(state: ReaderState, verdict: Verdict) -> RunAnswer
     ensures { λ r. ⌜ r ≡ refusedRun verdict state ⌝ }
 {
     RunAnswer {
         verdict,
         state,
-        counts: Counts {
-            shown: 0,
-            skipped: 0,
-            bad: 0,
-            ignored: 0,
+        counts: none(),
+    }
+}
+
+// The answer of a run that was not refused.
+fn ran(setup: Setup, e: Ended) -> RunAnswer
+    ensures { λ r. ⌜ r ≡ accepted setup e ⌝ }
+{
+    let shown = e.shown;
+    let pending = e.pending;
+    let current = e.current;
+    let mode = e.mode;
+    let counts = e.counts;
+    RunAnswer {
+        verdict: Verdict::Accepted,
+        state: ReaderState {
+            setup,
+            shown,
+            pending,
+            current,
+            mode,
         },
+        counts,
     }
 }
 
@@ -110,9 +206,9 @@ fn run_accepted(state: ReaderState, bytes: &[u8]) -> RunAnswer
     let current = state.current;
     let mode = state.mode;
     match mode {
-        Mode::Following => runs::follow(setup, shown, pending, current, bytes),
-        Mode::Dropped => runs::lost(setup, shown, current, Mode::Dropped, bytes, 0, 0, 0, 0),
-        Mode::Stale => runs::lost(setup, shown, current, Mode::Stale, bytes, 0, 0, 0, 0),
+        Mode::Following => ran(setup, follow::follow(setup, shown, pending, current, bytes)),
+        Mode::Dropped => ran(setup, follow::lost(shown, current, Mode::Dropped, bytes, 0, none())),
+        Mode::Stale => ran(setup, follow::lost(shown, current, Mode::Stale, bytes, 0, none())),
     }
 }
 
@@ -121,10 +217,10 @@ pub fn run(state: ReaderState, bytes: &[u8]) -> RunAnswer
     ensures { λ r. ⌜ r ≡ ranFrom (runCall base (seen state) (now (bytes .entry))) ⌝ }
 {
     if !state_ok(state) {
-        return run_refused(state, panel::Verdict::State);
+        return run_refused(state, Verdict::State);
     }
     if bytes.len() % 8 != 0 {
-        return run_refused(state, panel::Verdict::Ragged);
+        return run_refused(state, Verdict::Ragged);
     }
     run_accepted(state, bytes)
 }
@@ -134,7 +230,7 @@ pub fn read_one(state: ReaderState, e: records::Event) -> RunAnswer
     ensures { λ r. ⌜ r ≡ ranFrom (stepCall base (seen state) (eventOf e)) ⌝ }
 {
     if !state_ok(state) {
-        return run_refused(state, panel::Verdict::State);
+        return run_refused(state, Verdict::State);
     }
     let mut bytes = [0u8; 8];
     records::put(&mut bytes, e.kind, e.code, e.value);
@@ -151,13 +247,13 @@ fn is_stale(m: Mode) -> bool
     }
 }
 
-fn load_accepted(setup: panel::Setup, image: &[i32], current: panel::SlotNumber) -> LoadAnswer
+fn load_accepted(setup: Setup, image: &[i32], current: SlotNumber) -> LoadAnswer
     requires { ⌜ (setup .n ≤ 16) × (length (now image) ≡ 4 * setup .n) ⌝ }
     ensures { λ r. ⌜ r ≡ loadTaken setup (now (image .entry)) (current .0) ⌝ }
 {
     let t = image::image_table(setup, image);
     LoadAnswer {
-        verdict: panel::Verdict::Accepted,
+        verdict: Verdict::Accepted,
         state: ReaderState {
             setup,
             shown: t,
@@ -169,26 +265,26 @@ fn load_accepted(setup: panel::Setup, image: &[i32], current: panel::SlotNumber)
 }
 
 // Loads a full table, any numbers: refusals 2, 7, 8.
-pub fn load(state: ReaderState, image: &[i32], current: panel::SlotNumber) -> LoadAnswer
+pub fn load(state: ReaderState, image: &[i32], current: SlotNumber) -> LoadAnswer
     ensures { λ r. ⌜ r ≡ loadedFrom (loadCall base (seen state) (now (image .entry)) (current .0)) ⌝ }
 {
     if !state_ok(state) {
         return LoadAnswer {
-            verdict: panel::Verdict::State,
+            verdict: Verdict::State,
             state,
         };
     }
     let mode = state.mode;
     if !is_stale(mode) {
         return LoadAnswer {
-            verdict: panel::Verdict::NotStale,
+            verdict: Verdict::NotStale,
             state,
         };
     }
     let setup = state.setup;
     if !image::image_ok(setup, image, current) {
         return LoadAnswer {
-            verdict: panel::Verdict::Image,
+            verdict: Verdict::Image,
             state,
         };
     }
@@ -196,18 +292,18 @@ pub fn load(state: ReaderState, image: &[i32], current: panel::SlotNumber) -> Lo
 }
 
 // What a shown slot is answered.
-fn shown_answer(s: panel::Slot) -> SlotAnswer
+fn shown_answer(s: Slot) -> SlotAnswer
     ensures { λ r. ⌜ r ≡ askedFrom (askedIn following (slotOf s)) ⌝ }
 {
     let id = s.id;
-    if panel::same(id.0, panel::TrackingId::UNUSED) {
+    if common::same(id.0, TrackingId::UNUSED) {
         return SlotAnswer::Empty;
     }
     SlotAnswer::Contact(s)
 }
 
 // NO EVENT IS NOT NO FINGER: a reader that lost track answers Unknown and never an old table.
-fn answer_in(m: Mode, shown: [panel::Slot; panel::RECORDS], k: usize) -> SlotAnswer
+fn answer_in(m: Mode, shown: [Slot; panel::RECORDS], k: usize) -> SlotAnswer
     requires { ⌜ k < 16 ⌝ }
     ensures { λ r. ⌜ r ≡ askedFrom (askedIn (modeOf m) (getD (tableOf shown) k [])) ⌝ }
 {
@@ -219,11 +315,11 @@ fn answer_in(m: Mode, shown: [panel::Slot; panel::RECORDS], k: usize) -> SlotAns
 }
 
 // What the reader answers of a slot, any number: refusal 2, then no such slot, then the mode.
-pub fn ask(state: ReaderState, slot: panel::SlotNumber) -> SlotAnswer
+pub fn ask(state: ReaderState, slot: SlotNumber) -> SlotAnswer
     ensures { λ r. ⌜ AnswersAs (askCall base (seen state) (slot .0)) r ⌝ }
 {
     if !state_ok(state) {
-        return SlotAnswer::Refused(panel::Verdict::State);
+        return SlotAnswer::Refused(Verdict::State);
     }
     let setup = state.setup;
     let k = slot.0;

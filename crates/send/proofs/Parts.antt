@@ -12,7 +12,7 @@ use Rattle.model.specs.Records.{bitsOf, recordBytes, eventBytes, bytesOf}
 use Rattle.model.specs.Sending.{Sent, sendSlot, sendNumber, sendReport, unless, changes, eventOf}
 use Rattle.panel.specs.declared.Slot.{Slot}
 use Rattle.panel.specs.Seen.{slotOf}
-use Rattle.panel.proofs.Signs.{eq-bits}
+use Rattle.common.proofs.Signs.{eq-bits}
 use Rattle.records.proofs.Bits.{bits-same}
 use Rattle.send.specs.Sent.{codes, bytesSent, noneIf, numberBytes}
 

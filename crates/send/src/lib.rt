@@ -8,9 +8,9 @@ ghost use Rattle.model.specs.Sending.{sendSlot, sendReport, changes, lastOpened
 ghost use Rattle.panel.specs.Seen.{slotOf};
 ghost use Rattle.records.specs.Seen.{over};
 ghost use Rattle.send.specs.Sent.{bytesSent, numberBytes, sentBy};
+use common::SlotNumber;
 use panel::RECORDS;
 use panel::Slot;
-use panel::SlotNumber;
 
 // A number's record at the start of b, unless the number is the same; how many bytes.
 fn put_number(b: &mut [u8], code: u16, old: u32, new: u32) -> usize

@@ -1,10 +1,10 @@
 // Document 01's small program: reads a setup and event records from standard input and shows what a fresh reader makes of them.
 ghost use mathlib.Core.Bool.{true};
 ghost use mathlib.Core.Path.{_≡_};
+use common::Counts;
+use common::Mode;
+use common::Verdict;
 use header::Header;
-use panel::Verdict;
-use reader::Counts;
-use reader::Mode;
 use reader::ReaderState;
 use stream::Out;
 

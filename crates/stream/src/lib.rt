@@ -170,9 +170,9 @@ pub fn say_number(page: &mut [u8], out: Out, n: u64) -> Out {
 // A number without its sign.
 fn size(v: i32) -> u64 {
     if v < 0 {
-        return panel::nat_of(!v) as u64 + 1;
+        return common::nat_of(!v) as u64 + 1;
     }
-    panel::nat_of(v) as u64
+    common::nat_of(v) as u64
 }
 
 pub fn say_signed(page: &mut [u8], out: Out, v: i32) -> Out {
@@ -184,7 +184,7 @@ pub fn say_signed(page: &mut [u8], out: Out, v: i32) -> Out {
 }
 
 // The one line of a refusal.
-pub fn say_refused(page: &mut [u8], out: Out, verdict: panel::Verdict) -> Out {
+pub fn say_refused(page: &mut [u8], out: Out, verdict: common::Verdict) -> Out {
     let o = say(page, out.marked(REFUSED), b"refused ");
     let p = say_number(page, o, verdict.number() as u64);
     say(page, p, b"\n")
@@ -205,7 +205,7 @@ pub fn warn_number(out: Out, n: u64) -> Out {
     out.marked(FAILED)
 }
 
-pub fn warn_refused(out: Out, verdict: panel::Verdict) -> Out {
+pub fn warn_refused(out: Out, verdict: common::Verdict) -> Out {
     let o = warn(out.marked(REFUSED), b"refused ");
     let p = warn_number(o, verdict.number() as u64);
     warn(p, b"\n")

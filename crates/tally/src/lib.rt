@@ -7,10 +7,10 @@ ghost use lib.Dec.{eqb};
 ghost use Rattle.model.specs.Numbers.{eqZ};
 ghost use Rattle.model.specs.Sending.{oneUnless, changedIn, changedNumbers, changedMask};
 ghost use Rattle.panel.specs.Seen.{slotOf, tableOf, sameFrom};
+use common::SlotNumber;
+use common::TrackingId;
 use panel::RECORDS;
 use panel::Slot;
-use panel::SlotNumber;
-use panel::TrackingId;
 
 fn unlike(a: u32, b: u32) -> u32
     ensures { λ r. ⌜ (r ≤ 1) × (r ≡ oneUnless (eqb a b)) ⌝ }
@@ -24,7 +24,7 @@ fn unlike(a: u32, b: u32) -> u32
 fn unlike_id(a: TrackingId, b: TrackingId) -> u32
     ensures { λ r. ⌜ (r ≤ 1) × (r ≡ oneUnless (eqZ (a .0) (b .0))) ⌝ }
 {
-    if panel::same(a.0, b.0) {
+    if common::same(a.0, b.0) {
         return 0;
     }
     1

@@ -3,9 +3,9 @@
 ghost use mathlib.Core.Path.{_≡_};
 ghost use Prim.Native.Nat.{_≤_};
 ghost use lib.ListN.{length, take as first};
+use common::Verdict;
 use header::Header;
 use panel::RECORDS;
-use panel::Verdict;
 use stream::Out;
 use writer::WriterState;
 

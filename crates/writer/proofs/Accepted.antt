@@ -20,9 +20,9 @@ use Rattle.model.specs.Calls.{frameEvents, needOf, roomFor, writeCall, writeBuf
 use Rattle.model.proofs.Bytes.{bytes-length}
 use Rattle.model.proofs.Calls.{frame-count}
 use Rattle.panel.specs.declared.Slot.{Slot}
-use Rattle.panel.specs.declared.Verdict.the-variants.{NoRoom}
+use Rattle.common.specs.declared.Verdict.the-variants.{NoRoom}
 use Rattle.panel.specs.Seen.{tableOf, panelSeen}
-use Rattle.panel.proofs.Signs.{and-false}
+use Rattle.common.proofs.Signs.{and-false}
 use Rattle.records.proofs.Over.{lay-nil}
 use Rattle.send.specs.Sent.{bytesSent, sentBy}
 use Rattle.send.proofs.Parts.{sent-nil}

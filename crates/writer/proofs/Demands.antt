@@ -16,7 +16,8 @@ use Rattle.model.proofs.Tables.{good-records}
 use Rattle.model.proofs.Calls.{by-verdict, accepted-is, writer-state, frame-steady, write-steady, write-refused, fresh-writer-good}
 use Rattle.model.proofs.Instances.{base-good}
 use Rattle.panel.specs.declared.Setup.{Setup}
-use Rattle.panel.specs.Seen.{setupOf, panelSeen, verdictFrom}
+use Rattle.panel.specs.Seen.{setupOf, panelSeen}
+use Rattle.common.specs.Seen.{verdictFrom}
 use Rattle.panel.proofs.Back.{table-seen}
 use Rattle.writer.specs.declared.WriterState.{WriterState}
 use Rattle.writer.specs.declared.Written.{Written}

@@ -15,7 +15,8 @@ use Rattle.model.specs.States.{writerGood}
 use Rattle.model.specs.Calls as C
 use Rattle.model.specs.Calls.{verdictNumber, check, isAccepted, frameEvents, needOf, roomFor, notWritten, taken, writeVerdict, writeCall, writeBuffer}
 use Rattle.panel.specs.declared.Slot.{Slot}
-use Rattle.panel.specs.Seen.{tableOf, tableFrom, panelSeen, verdictFrom}
+use Rattle.panel.specs.Seen.{tableOf, tableFrom, panelSeen}
+use Rattle.common.specs.Seen.{verdictFrom}
 use Rattle.panel.proofs.Back.{table-back}
 use Rattle.writer.specs.declared.WriterState.{WriterState}
 use Rattle.writer.specs.Seen.{seen, writtenFrom, notWrittenBy, writtenBy}

@@ -2,9 +2,10 @@
 use Prim.Native.Nat.{ℕ}
 use Rattle.model.specs.States as M
 use Rattle.model.specs.Calls as C
-use Rattle.panel.specs.declared.Verdict.{Verdict}
-use Rattle.panel.specs.declared.Verdict.the-variants.{Accepted}
-use Rattle.panel.specs.Seen.{tableOf, tableFrom, setupOf, setupFrom, verdictFrom}
+use Rattle.common.specs.declared.Verdict.{Verdict}
+use Rattle.common.specs.declared.Verdict.the-variants.{Accepted}
+use Rattle.panel.specs.Seen.{tableOf, tableFrom, setupOf, setupFrom}
+use Rattle.common.specs.Seen.{verdictFrom}
 use Rattle.writer.specs.declared.WriterState.{WriterState}
 use Rattle.writer.specs.declared.FreshWriter.{FreshWriter}
 use Rattle.writer.specs.declared.Written.{Written}

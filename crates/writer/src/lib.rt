@@ -11,11 +11,11 @@ ghost use Rattle.model.specs.States.{writerGood};
 ghost use Rattle.model.specs.Calls.{freshWriterCall, writeCall, writeBuffer};
 ghost use Rattle.panel.specs.Seen.{setupOf, panelSeen};
 ghost use Rattle.writer.specs.Seen.{seen, freshFrom, writtenFrom, notWrittenBy, writtenBy};
+use common::SlotNumber;
+use common::Verdict;
 use panel::RECORDS;
 use panel::Setup;
 use panel::Slot;
-use panel::SlotNumber;
-use panel::Verdict;
 
 pub struct WriterState {
     pub setup: Setup,

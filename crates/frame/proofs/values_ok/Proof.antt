@@ -8,7 +8,7 @@ use native.Mathlib.Omega.{arith}
 use Rattle.model.specs.Frame.{numbersFrom, goodRow, goodRows, rowsFrom}
 use Rattle.model.proofs.Rows.{rows-next, rows-none}
 use Rattle.panel.specs.Seen.{axesOf}
-use Rattle.panel.proofs.Signs.{row-read}
+use Rattle.panel.proofs.Lent.{row-read}
 use Rattle.panel.proofs.Setups.{small}
 use Rattle.frame.proofs.values_ok.Statement.{statement}
 use Rattle.frame.proofs.values_ok.Tie as tie

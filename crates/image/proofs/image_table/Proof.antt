@@ -6,7 +6,7 @@ use native.Mathlib.Omega.{arith}
 use lib.ListN.{length, set}
 use Rattle.model.specs.Frame.{numbersFrom}
 use Rattle.panel.specs.Seen.{slotFrom}
-use Rattle.panel.proofs.Signs.{row-read}
+use Rattle.panel.proofs.Lent.{row-read}
 use Rattle.image.proofs.Images.{filled, filled-start, filled-next, filled-end}
 use Rattle.image.proofs.image_table.Statement.{statement}
 use Rattle.image.proofs.image_table.Tie as tie

@@ -8,7 +8,7 @@ use native.Mathlib.Omega.{arith}
 use Rattle.model.specs.Table.{goodSlot, goodRecords}
 use Rattle.model.specs.Frame.{rowsFrom, numbersFrom}
 use Rattle.panel.specs.Seen.{fieldsOf}
-use Rattle.panel.proofs.Signs.{row-read}
+use Rattle.panel.proofs.Lent.{row-read}
 use Rattle.image.proofs.Images.{good-next, good-end}
 use Rattle.image.proofs.rows_ok.Statement.{statement}
 use Rattle.image.proofs.rows_ok.Tie as tie

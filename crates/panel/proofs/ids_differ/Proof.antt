@@ -12,7 +12,8 @@ use mir.Val.{SFits, toZ, ofZ}
 use mir.ValLaws.{toZ-ofZ}
 use Rattle.model.specs.Numbers.{eqZ, minusOne}
 use Rattle.model.specs.Table.{ids, unheld}
-use Rattle.panel.specs.Seen.{natural, tableOf, blank}
+use Rattle.common.specs.Seen.{natural}
+use Rattle.panel.specs.Seen.{tableOf, blank}
 use Rattle.panel.proofs.Apart.{Walked, dead-turn, free-turn, met-turn, clash-turn, walk-over}
 use Rattle.panel.proofs.ids_differ.Statement.{statement}
 use Rattle.panel.proofs.ids_differ.Tie as tie

@@ -4,7 +4,7 @@ use mathlib.Core.Path.{_≡_, sym, ap, _∙_}
 use Prim.Native.Nat.{_≤_, _<_, _-_}
 use native.Mathlib.Omega.{arith}
 use lib.IntN.{pos}
-use Rattle.panel.specs.declared.TrackingId.{TrackingId}
+use Rattle.common.specs.declared.TrackingId.{TrackingId}
 use Rattle.model.specs.Table.{unheld}
 use Rattle.model.specs.Frame.{freeId, pick, next}
 use Rattle.model.proofs.Tries.{freeId-short, pick-stays, pick-held}

@@ -19,7 +19,7 @@ use Rattle.model.proofs.Bools.{and-left, and-right}
 use Rattle.model.proofs.Rows.{rows-next, rows-none, row-of-four}
 use Rattle.model.proofs.Tries.{Same, same-last, table-same, counter-same}
 use Rattle.panel.specs.declared.Slot.{Slot}
-use Rattle.panel.specs.declared.TrackingId.{TrackingId}
+use Rattle.common.specs.declared.TrackingId.{TrackingId}
 use Rattle.panel.specs.Seen.{slotOf, tableOf, blank}
 use Rattle.panel.proofs.Apart.{front-holds}
 use Rattle.plan.specs.Row.{begun, held, stayed, plainRow, plainRows}

@@ -7,7 +7,7 @@ use native.Mathlib.Omega.{arith}
 use Rattle.model.specs.Panel.{base}
 use Rattle.model.specs.States.{readerGood}
 use Rattle.model.proofs.Answers.{ask-bad-state, ask-no-slot, ask-slot}
-use Rattle.runs.specs.Seen.{seen}
+use Rattle.reader.specs.States.{seen}
 use Rattle.reader.specs.Seen.{askedFrom}
 use Rattle.reader.proofs.States.{good-small}
 use Rattle.reader.proofs.Back.{answers}

@@ -7,10 +7,11 @@ use Rattle.model.specs.Panel.{base}
 use Rattle.model.specs.States.{readerGood}
 use Rattle.model.specs.Calls.{isStale}
 use Rattle.model.proofs.Answers.{load-bad-state, load-not-stale, load-bad-image, load-taken}
-use Rattle.panel.specs.declared.Verdict.the-variants as W
-use Rattle.runs.specs.Seen.{modeOf, seen}
+use Rattle.common.specs.declared.Verdict.the-variants as W
+use Rattle.common.specs.Seen.{modeOf}
+use Rattle.reader.specs.States.{seen}
 use Rattle.reader.specs.Seen.{loadedFrom}
-use Rattle.runs.proofs.Back.{state-back}
+use Rattle.reader.proofs.Held.{state-back}
 use Rattle.reader.proofs.States.{good-small, image-length}
 use Rattle.reader.proofs.load.Statement.{statement}
 use Rattle.reader.proofs.load.Tie as tie

@@ -6,10 +6,10 @@ use mathlib.Core.Bool.{true}
 use Rattle.model.specs.Panel.{base}
 use Rattle.model.specs.States.{readerGood}
 use Rattle.model.proofs.Answers.{run-bad-state, run-ragged, run-whole}
-use Rattle.panel.specs.declared.Verdict.the-variants as W
-use Rattle.runs.specs.Seen.{seen, ranFrom}
+use Rattle.common.specs.declared.Verdict.the-variants as W
+use Rattle.reader.specs.States.{seen, ranFrom}
 use Rattle.reader.specs.Seen.{refusedRun}
-use Rattle.runs.proofs.Back.{state-back}
+use Rattle.reader.proofs.Held.{state-back}
 use Rattle.reader.proofs.run.Statement.{statement}
 use Rattle.reader.proofs.run.Tie as tie
 

@@ -1,0 +1,7 @@
+-- The laws behind a run.
+-- Runs: what is left of a run, event by event, at its end, and once track is lost.
+-- Turns: a turn of the loop, one law for each arm, and the answers of the ends.
+-- Unique: the promises leave no choice.
+pub mod Runs
+pub mod Turns
+pub mod Unique

@@ -1,0 +1,45 @@
+-- What is left of a run, and how it ends: the contracts of the loops. Assumes nothing.
+use mathlib.Core.List.{List, map}
+use Prim.Native.Nat.{ℕ}
+use lib.ListN.{length}
+use Rattle.model.specs.Panel.{Panel}
+use Rattle.model.specs.Events.{Event, classify}
+use Rattle.model.specs.Reader.{Mode, Reader, read, Counts, plus, tallies, Run}
+use Rattle.common.specs.declared.SlotNumber.{SlotNumber}
+use Rattle.common.specs.Seen.{modeFrom, countsFrom}
+use Rattle.common.specs.Lost.{lastMode}
+use Rattle.panel.specs.Seen.{tableFrom}
+use Rattle.panel.specs.declared.Slot.{Slot}
+use Rattle.follow.specs.declared.Ended.{Ended}
+
+-- What is left of a run, where `a` is counted already.
+unfoldable pub onward : Panel → Reader → Counts → List Event → Run
+onward p r a es = record { reader = read p r es; counts = plus a (tallies r (map (classify p) es)) }
+
+-- Three counts, and none ignored.
+abbrev pub counted : ℕ → ℕ → ℕ → Counts
+counted a b d = record { shown = a; skipped = b; bad = d; ignored = 0 }
+
+-- A run that is over.
+abbrev pub endingAt : Reader → Counts → Run
+endingAt r a = record { reader = r; counts = a }
+
+-- A run's end as the code answers it.
+abbrev pub endedFrom : Run → Ended
+endedFrom e = record {
+  shown = tableFrom (e .reader .shown);
+  pending = tableFrom (e .reader .pending);
+  current = record { 0 = e .reader .current };
+  mode = modeFrom (e .reader .mode);
+  counts = countsFrom (e .counts);
+}
+
+-- The end of a run that lost track with events left: nothing is pending, only the mode goes on, and each event is ignored.
+abbrev pub lostAt : List Slot → SlotNumber → Mode → Counts → List Event → Ended
+lostAt t c m a es = record {
+  shown = t;
+  pending = t;
+  current = c;
+  mode = modeFrom (lastMode m es);
+  counts = record { shown = a .shown; skipped = a .skipped; bad = a .bad; ignored = length es };
+}

@@ -1,0 +1,161 @@
+// A run over records: the loop of a reader that follows, which changes its tables in place, and how a run ends once track is lost. The reader's calls stand on it.
+ghost use mathlib.Core.Path.{_≡_};
+ghost use mathlib.Core.Bool.{true};
+ghost use Prim.Native.Nat.{_<_, _≤_, _-_, _*_, _/_};
+ghost use lib.ListN.{length};
+ghost use Rattle.model.specs.Panel.{base, setupGood};
+ghost use Rattle.model.specs.Records.{eventsFrom, eventsOf};
+ghost use Rattle.model.specs.Reader.{following, nothing};
+ghost use Rattle.common.specs.Seen.{modeOf, countsOf, countsFrom};
+ghost use Rattle.panel.specs.Seen.{setupOf, panelSeen, unusedAll, sameFrom};
+ghost use Rattle.follow.specs.Seen.{readerOf};
+ghost use Rattle.follow.specs.Runs.{onward, counted as countsSoFar, endingAt, endedFrom, lostAt};
+use acts::Act;
+use common::Counts;
+use common::Mode;
+use common::SlotNumber;
+use panel::RECORDS;
+use panel::Setup;
+use panel::Slot;
+
+// What a run leaves.
+pub struct Ended {
+    pub shown: [Slot; RECORDS],
+    pub pending: [Slot; RECORDS],
+    pub current: SlotNumber,
+    pub mode: Mode,
+    pub counts: Counts,
+}
+
+// The rest of a run, from record k on, once the reader lost track: only a load leads back, so every record is ignored and only the mode moves.
+pub fn lost(
+    shown: [Slot; RECORDS],
+    current: SlotNumber,
+    m: Mode,
+    bytes: &[u8],
+    k: usize,
+    before: Counts,
+) -> Ended
+    requires { ⌜ k ≤ length (now bytes) / 8 ⌝ }
+    ensures { λ r. ⌜ r ≡ lostAt shown current (modeOf m) (countsOf before) (eventsFrom (length (now (bytes .entry)) / 8 - k) (now (bytes .entry)) (8 * k)) ⌝ }
+{
+    let count = bytes.len() / 8;
+    let mode = common::last_mode(m, bytes, k);
+    Ended {
+        shown,
+        pending: shown,
+        current,
+        mode,
+        counts: Counts {
+            shown: before.shown,
+            skipped: before.skipped,
+            bad: before.bad,
+            ignored: count - k,
+        },
+    }
+}
+
+fn counted(shown: usize, skipped: usize, bad: usize) -> Counts
+    ensures { λ r. ⌜ r ≡ countsFrom (countsSoFar shown skipped bad) ⌝ }
+{
+    Counts {
+        shown,
+        skipped,
+        bad,
+        ignored: 0,
+    }
+}
+
+// The end of a run that never lost track.
+fn kept(
+    shown: [Slot; RECORDS],
+    pending: [Slot; RECORDS],
+    current: SlotNumber,
+    frames: usize,
+    skipped: usize,
+) -> Ended
+    ensures { λ r. ⌜ r ≡ endedFrom (endingAt (readerOf shown pending (current .0) following) (countsSoFar frames skipped 0)) ⌝ }
+{
+    Ended {
+        shown,
+        pending,
+        current,
+        mode: Mode::Following,
+        counts: counted(frames, skipped, 0),
+    }
+}
+
+// A run that begins following. The tables are changed in place: a table is copied at a report or a loss, never for another event.
+// Most reports come without a new id, so the pending ids are compared only if one was written since they were last found to differ.
+pub fn follow(
+    setup: Setup,
+    shown0: [Slot; RECORDS],
+    pending0: [Slot; RECORDS],
+    current0: SlotNumber,
+    bytes: &[u8],
+) -> Ended
+    requires { ⌜ (setupGood base (setupOf setup) ≡ true) × (current0 .0 < setup .n) × sameFrom (setup .n) pending0 unusedAll ⌝ }
+    ensures { λ r. ⌜ r ≡ endedFrom (onward (panelSeen setup) (readerOf shown0 pending0 (current0 .0) following) nothing (eventsOf (now (bytes .entry)))) ⌝ }
+{
+    let count = bytes.len() / 8;
+    let mut shown = shown0;
+    let mut pending = pending0;
+    let mut written = true;
+    let mut current = current0.0;
+    let mut frames: usize = 0;
+    let mut skipped: usize = 0;
+    let mut k: usize = 0;
+    while k < count {
+        let e = records::record_at(bytes, 8 * k);
+        let a = acts::act_of(setup, e);
+        k += 1;
+        match a {
+            Act::Skip => {
+                skipped += 1;
+            }
+            Act::Bad => {
+                let c = counted(frames, skipped, 1);
+                return lost(shown, SlotNumber(current), Mode::Dropped, bytes, k, c);
+            }
+            Act::Report => {
+                if written {
+                    if !panel::ids_differ(setup.n, pending) {
+                        let c = counted(frames, skipped, 1);
+                        return lost(shown, SlotNumber(current), Mode::Stale, bytes, k, c);
+                    }
+                    written = false;
+                }
+                shown = pending;
+                frames += 1;
+            }
+            Act::Loss => {
+                let c = counted(frames, skipped, 0);
+                return lost(shown, SlotNumber(current), Mode::Dropped, bytes, k, c);
+            }
+            Act::Select(s) => {
+                current = s.0;
+            }
+            Act::Id(v) => {
+                let old = pending[current];
+                written = true;
+                pending[current] = Slot {
+                    id: v,
+                    x: old.x,
+                    y: old.y,
+                    pressure: old.pressure,
+                };
+            }
+            Act::X(v) => {
+                pending[current].x = v;
+            }
+            Act::Y(v) => {
+                pending[current].y = v;
+            }
+            Act::Pressure(v) => {
+                pending[current].pressure = v;
+            }
+        }
+    }
+    let last = SlotNumber(current);
+    kept(shown, pending, last, frames, skipped)
+}

@@ -1,3 +1,0 @@
--- The reader's states as the model's, and what is left of a run.
-pub mod Seen
-pub mod Runs
