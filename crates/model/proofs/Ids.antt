@@ -10,7 +10,7 @@ use lib.ListN.{length, getD, length-map}
 use Rattle.model.proofs.Bools.{is-true, is-false, both, both-left, both-right, not-both, eqZ→eq, eqZ-refl, apart}
 use Rattle.model.specs.Numbers.{eqZ}
 use Rattle.model.specs.Table.{Slot, Table, idOf, numbersOf, live, unheld, liveDiffer, ids, idsDiffer}
-use Rattle.model.specs.Frame.{kindOf, Fate, none, goesOn, begins, fate, next, pick, freeId, slotAfter, takenAfter, counterAfter, tableFrom, counterFrom, newTable}
+use Rattle.model.specs.Frame.{kindOf, Fate, none, goesOn, begins, fate, next, pick, freeId, slotAfter, takenAfter, counterAfter, planned, newTable}
 
 -- ---- taking one number out of a list
 
@@ -125,7 +125,7 @@ counterAfter-below goesOn j k q = q
 counterAfter-below begins j k q = omega arith
 
 -- The counter stays below 65,536.
-pub counter-below : (taken : List ℤ) (k : ℕ) (fr : List (List ℤ)) (t : Table) → k < 65_536 → counterFrom taken k fr t < 65_536
+pub counter-below : (taken : List ℤ) (k : ℕ) (fr : List (List ℤ)) (t : Table) → k < 65_536 → planned taken k fr t .counter < 65_536
 counter-below taken k [] t q = q
 counter-below taken k (g ∷ fr) [] q = q
 counter-below taken k (g ∷ fr) (s ∷ t) q =
@@ -137,11 +137,11 @@ counter-below taken k (g ∷ fr) (s ∷ t) q =
 
 -- A table's first slot and the rest of it after their rows, by the first slot's fate.
 abbrev pub fated : Fate → List ℤ → ℕ → List ℤ → List (List ℤ) → Slot → Table → Table
-fated f taken k g fr s t = slotAfter f (freeId taken k) s (numbersOf g) ∷ tableFrom (takenAfter f (freeId taken k) taken) (counterAfter f (freeId taken k) k) fr t
+fated f taken k g fr s t = slotAfter f (freeId taken k) s (numbersOf g) ∷ planned (takenAfter f (freeId taken k) taken) (counterAfter f (freeId taken k) k) fr t .table
 
 -- An id that is taken, and held by no slot to come, is held by no slot to come afterwards.
 stays-unheld : (taken : List ℤ) (k : ℕ) (fr : List (List ℤ)) (t : Table) (v : ℤ) → k < 65_536 → length taken + length t < 65_536
-    → T (live v) → T (not (unheld v taken)) → T (unheld v (ids t)) → T (unheld v (ids (tableFrom taken k fr t)))
+    → T (live v) → T (not (unheld v taken)) → T (unheld v (ids t)) → T (unheld v (ids (planned taken k fr t .table)))
 stays-unheld taken k [] t v q z lv h u = u
 stays-unheld taken k (g ∷ fr) [] v q z lv h u = tt
 stays-unheld taken k (g ∷ fr) (s ∷ t) v q z lv h u =
@@ -157,7 +157,7 @@ stays-unheld taken k (g ∷ fr) (s ∷ t) v q z lv h u =
     ]
 
 differ-from : (taken : List ℤ) (k : ℕ) (fr : List (List ℤ)) (t : Table) → k < 65_536 → length taken + length t < 65_536
-    → ((v : ℤ) → T (live v) → T (unheld v taken) → T (unheld v (ids t))) → T (liveDiffer (ids t)) → T (liveDiffer (ids (tableFrom taken k fr t)))
+    → ((v : ℤ) → T (live v) → T (unheld v taken) → T (unheld v (ids t))) → T (liveDiffer (ids t)) → T (liveDiffer (ids (planned taken k fr t .table)))
 differ-from taken k [] t q z H d = d
 differ-from taken k (g ∷ fr) [] q z H d = tt
 differ-from taken k (g ∷ fr) (s ∷ t) q z H d =
@@ -168,15 +168,15 @@ differ-from taken k (g ∷ fr) (s ∷ t) q z H d =
     elim (fate (kindOf g) (idOf s)) as (λ f. T (liveDiffer (ids (fated f taken k g fr s t)))) [
       | none ↦ differ-from taken k fr t q (omega arith) H′ rest
       | goesOn ↦
-          both (not (live x) || unheld x (ids (tableFrom taken k fr t))) _
-          ((elim (live x) as (λ b. (T b → T (live x)) → T (not b || unheld x (ids t)) → T (not b || unheld x (ids (tableFrom taken k fr t)))) [
+          both (not (live x) || unheld x (ids (planned taken k fr t .table))) _
+          ((elim (live x) as (λ b. (T b → T (live x)) → T (not b || unheld x (ids t)) → T (not b || unheld x (ids (planned taken k fr t .table)))) [
             | true ↦ λ lv u. stays-unheld taken k fr t x q (omega arith) (lv tt) (not-T (unheld x taken) (λ e. T-not (eqZ x x) (both-left (not (eqZ x x)) (unheld x (ids t)) (H x (lv tt) e)) (eqZ-refl x))) u
             | false ↦ λ lv u. tt
           ]) (λ e. e) (both-left (not (live x) || unheld x (ids t)) (liveDiffer (ids t)) d))
           (differ-from taken k fr t q (omega arith) H′ rest)
       | begins ↦
           let held : T (not (unheld (pos j) (pos j ∷ taken))) = rw (is-true (eqZ (pos j) (pos j)) (eqZ-refl (pos j))) tt in
-          both (unheld (pos j) (ids (tableFrom (pos j ∷ taken) (next j) fr t))) _
+          both (unheld (pos j) (ids (planned (pos j ∷ taken) (next j) fr t .table))) _
           (stays-unheld (pos j ∷ taken) (next j) fr t (pos j) (omega arith) (omega arith) tt held (H′ (pos j) tt (freeId-free taken k q (omega arith))))
           (differ-from (pos j ∷ taken) (next j) fr t (omega arith) (omega arith) (λ v lv u. H′ v lv (both-right (not (eqZ v (pos j))) (unheld v taken) u)) rest)
     ]
@@ -199,7 +199,7 @@ taken-length goesOn j taken = omega arith
 taken-length begins j taken = omega arith
 
 begun-from : (taken : List ℤ) (k : ℕ) (fr : List (List ℤ)) (t : Table) (i : ℕ) → k < 65_536 → length taken + length t < 65_536 → i < length fr → i < length t
-    → fate (kindOf (getD fr i [])) (idOf (getD t i [])) ≡ begins → T (unheld (idOf (getD (tableFrom taken k fr t) i [])) taken)
+    → fate (kindOf (getD fr i [])) (idOf (getD t i [])) ≡ begins → T (unheld (idOf (getD (planned taken k fr t .table) i [])) taken)
 begun-from taken k [] t i q z a b e = absurd (omega arith)
 begun-from taken k (g ∷ fr) [] i q z a b e = absurd (omega arith)
 begun-from taken k (g ∷ fr) (s ∷ t) zero q z a b e =

@@ -10,7 +10,7 @@ use Rattle.model.proofs.Bools.{is-true}
 use Rattle.model.proofs.Ids.{pick-free}
 use Rattle.model.specs.Numbers.{eqZ}
 use Rattle.model.specs.Table.{Table, idOf, numbersOf, unheld}
-use Rattle.model.specs.Frame.{kindOf, Fate, none, goesOn, begins, fate, next, pick, freeId, slotAfter, takenAfter, counterAfter, tableFrom, counterFrom}
+use Rattle.model.specs.Frame.{kindOf, Fate, none, goesOn, begins, fate, next, pick, freeId, slotAfter, takenAfter, counterAfter, after, planned}
 
 -- ---- how many tries
 
@@ -61,23 +61,15 @@ taken-same none j a b e k = e k
 taken-same goesOn j a b e k = e k
 taken-same begins j a b e k = ap (λ t. not (eqZ (pos k) (pos j)) && t) (e k)
 
-pub table-same : (a b : List ℤ) (k : ℕ) (fr : List (List ℤ)) (t : Table) → Same a b → tableFrom a k fr t ≡ tableFrom b k fr t
-table-same a b k [] t e = refl
-table-same a b k (g ∷ fr) [] e = refl
-table-same a b k (g ∷ fr) (s ∷ t) e =
+-- The planned table and counter go by which ids are taken alone.
+pub planned-same : (a b : List ℤ) (k : ℕ) (fr : List (List ℤ)) (t : Table) → Same a b → planned a k fr t ≡ planned b k fr t
+planned-same a b k [] t e = refl
+planned-same a b k (g ∷ fr) [] e = refl
+planned-same a b k (g ∷ fr) (s ∷ t) e =
     let f = fate (kindOf g) (idOf s) in
     let j = freeId b k in
-    ap {B = Table} (λ i. slotAfter f i s (numbersOf g) ∷ tableFrom (takenAfter f i a) (counterAfter f i k) fr t) (freeId-same a b k e)
-    ∙ ap {B = Table} (λ r. slotAfter f j s (numbersOf g) ∷ r) (table-same (takenAfter f j a) (takenAfter f j b) (counterAfter f j k) fr t (taken-same f j a b e))
-
-pub counter-same : (a b : List ℤ) (k : ℕ) (fr : List (List ℤ)) (t : Table) → Same a b → counterFrom a k fr t ≡ counterFrom b k fr t
-counter-same a b k [] t e = refl
-counter-same a b k (g ∷ fr) [] e = refl
-counter-same a b k (g ∷ fr) (s ∷ t) e =
-    let f = fate (kindOf g) (idOf s) in
-    let j = freeId b k in
-    ap (λ i. counterFrom (takenAfter f i a) (counterAfter f i k) fr t) (freeId-same a b k e)
-    ∙ counter-same (takenAfter f j a) (takenAfter f j b) (counterAfter f j k) fr t (taken-same f j a b e)
+    ap (λ i. after (slotAfter f i s (numbersOf g) ∷ []) (planned (takenAfter f i a) (counterAfter f i k) fr t)) (freeId-same a b k e)
+    ∙ ap (after (slotAfter f j s (numbersOf g) ∷ [])) (planned-same (takenAfter f j a) (takenAfter f j b) (counterAfter f j k) fr t (taken-same f j a b e))
 
 -- A number put last is held as one put first.
 pub same-last : (v : ℤ) (l : List ℤ) → Same (v ∷ l) (l ++ v ∷ [])

@@ -14,7 +14,7 @@ use Rattle.model.proofs.Ids.{fated, freeId-below, counter-below, ids-ap
 use Rattle.model.specs.Numbers.{eqZ}
 use Rattle.model.specs.Panel.{Field, Panel, idField}
 use Rattle.model.specs.Table.{Slot, Table, idOf, numbersOf, live, ids, idsDiffer, fits, goodSlot, goodRecords, goodTable}
-use Rattle.model.specs.Frame.{kindOf, goodRow, goodRows, Fate, none, goesOn, begins, fate, freeId, tableFrom, newTable, newCounter}
+use Rattle.model.specs.Frame.{kindOf, goodRow, goodRows, Fate, none, goesOn, begins, fate, freeId, planned, newTable, newCounter}
 use Rattle.model.specs.Sending.{sending, currentAfter}
 use Rattle.model.specs.States.{Writer, goodWriter}
 
@@ -81,7 +81,7 @@ slot-numbers axes (v ∷ s) g = both-right (fits idField v) (goodSlot axes s) g
 
 -- No more rows than the panel has slots, all good, keep good records good.
 rows-good : (axes : List Field) (n : ℕ) (taken : List ℤ) (k : ℕ) (fr : List (List ℤ)) (t : Table) → k < 65_536 → length fr ≤ n → T (goodRows axes fr)
-    → T (goodRecords (idField ∷ axes) n t) → T (goodRecords (idField ∷ axes) n (tableFrom taken k fr t))
+    → T (goodRecords (idField ∷ axes) n t) → T (goodRecords (idField ∷ axes) n (planned taken k fr t .table))
 rows-good axes n taken k [] t q l r g = g
 rows-good axes zero taken k (x ∷ fr) t q l r g = absurd (omega arith)
 rows-good axes (suc n) taken k (x ∷ fr) [] q l r g = absurd g
@@ -98,7 +98,7 @@ rows-good axes (suc n) taken k (x ∷ fr) (s ∷ t) q l r g =
       | begins ↦ λ c. both (goodSlot fs (pos j ∷ numbersOf x)) _ (both (fits idField (pos j)) _ (id-fits j lj) (c tt)) (rows-good axes n (pos j ∷ taken) _ fr t (omega arith) (omega arith) rows more)
     ]) (λ c. row-numbers axes x (both-left (goodRow axes x) (goodRows axes fr) r) (contact-kind (kindOf x) (idOf s) c))
 
-pub length-rows : (taken : List ℤ) (k : ℕ) (fr : List (List ℤ)) (t : Table) → length (tableFrom taken k fr t) ≡ length t
+pub length-rows : (taken : List ℤ) (k : ℕ) (fr : List (List ℤ)) (t : Table) → length (planned taken k fr t .table) ≡ length t
 length-rows taken k [] t = refl
 length-rows taken k (x ∷ fr) [] = refl
 length-rows taken k (x ∷ fr) (s ∷ t) = ap suc (length-rows _ _ fr t)

@@ -6,9 +6,9 @@ ghost use lib.IntN.{pos};
 ghost use lib.ListN.{length, take};
 ghost use Rattle.model.specs.Numbers.{eqZ};
 ghost use Rattle.model.specs.Table.{ids, unheld};
-ghost use Rattle.model.specs.Frame.{fate, freeId, next, rowsFrom, newTable, newCounter};
+ghost use Rattle.model.specs.Frame.{fate, freeId, next, rowsFrom, framed};
 ghost use Rattle.panel.specs.Seen.{tableOf, unusedAll, sameFrom};
-ghost use Rattle.plan.specs.Row.{begun, held, stayed, plainRows};
+ghost use Rattle.plan.specs.Row.{begun, held, stayed, plainRows, plannedOf};
 use panel::RECORDS;
 use panel::Slot;
 use panel::TrackingId;
@@ -131,7 +131,7 @@ pub struct Planned {
 // The table and the counter after n good rows, of a table that was never used past n slots. An ending or replaced contact's id stays taken to the end of the frame.
 pub fn plan_frame(n: usize, old: [Slot; RECORDS], counter: u32, frame: &[i32]) -> Planned
     requires { ⌜ (n ≤ 16) × (counter < 65536) × (length (now frame) ≡ 4 * n) × (plainRows (rowsFrom 4 n (now frame) 0) ≡ true) × sameFrom n old unusedAll ⌝ }
-    ensures { λ r. ⌜ (tableOf (r .table) ≡ newTable counter (rowsFrom 4 n (now (frame .entry)) 0) (tableOf old)) × (r .counter ≡ newCounter counter (rowsFrom 4 n (now (frame .entry)) 0) (tableOf old)) ⌝ }
+    ensures { λ r. ⌜ plannedOf r ≡ framed counter (rowsFrom 4 n (now (frame .entry)) 0) (tableOf old) ⌝ }
 {
     let mut taken = ids_of(n, old);
     let mut m = n;

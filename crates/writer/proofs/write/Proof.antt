@@ -116,7 +116,7 @@ accept-requires c κs =
     let f = k .before in
     let e = f .before .before in
     let v : values (start (e .before)) ≡ true = sym (k .values-ok .ensures) ∙ not-false (k .values-ok .result) (c .before .if3 .left) in
-    (state-good e, f .if2 .left, v)
+    record { state = state-good e; size = f .if2 .left; values = v }
 
 same-length : tie.Need-same-length
 same-length c = search needs
