@@ -7,7 +7,7 @@ use lib.Dec.{ltb}
 use lib.IntN.{ℤ, pos, negsuc}
 use borrow.Author.Tests.{lt-ltb, le-ltb, le-leb, lt-leb, ltb-true, ltb-false}
 use Rattle.model.specs.Numbers.{betweenZ}
-use Rattle.model.specs.Panel.{idField}
+use Rattle.model.specs.Panel.{idField, records, idCount, lastId}
 use Rattle.model.specs.Table.{fits}
 use Rattle.model.specs.Events.{bad, slot, number, slotAct, absAct}
 use Rattle.model.specs.Records.{signedOf}
@@ -34,21 +34,21 @@ by-sign P v f g = go (ltb v 2_147_483_648) refl
 fits-not : (top v : ℕ) → top < v → betweenZ (pos 0) (pos top) (signedOf v) ≡ false
 fits-not top v l = by-sign (λ z. betweenZ (pos 0) (pos top) z ≡ false) v (λ m. rw (le-leb 0 v (omega arith), lt-leb v top l)) (λ m. refl)
 
-pub slot-in : (n v : ℕ) → v < n → n ≤ 16 → slotAct n (signedOf v) ≡ slot v
+pub slot-in : (n v : ℕ) → v < n → n ≤ records → slotAct n (signedOf v) ≡ slot v
 slot-in n v l m = rw (small-signed v (omega arith), lt-ltb v n l)
 
 pub slot-out : (n v : ℕ) → n ≤ v → slotAct n (signedOf v) ≡ bad
 slot-out n v l = by-sign (λ z. slotAct n z ≡ bad) v (λ m. rw (le-ltb v n l)) (λ m. refl)
 
-pub id-small : (v : ℕ) → v ≤ 65_535 → cond (fits idField (signedOf v)) (number 0 (signedOf v)) bad ≡ number 0 (pos v)
-id-small v l = rw (small-signed v (omega arith), le-leb v 65_535 l)
+pub id-small : (v : ℕ) → v < idCount → cond (fits idField (signedOf v)) (number 0 (signedOf v)) bad ≡ number 0 (pos v)
+id-small v l = rw (small-signed v (omega arith), le-leb v lastId (omega arith))
 
 pub id-none : cond (fits idField (signedOf 4_294_967_295)) (number 0 (signedOf 4_294_967_295)) bad ≡ number 0 (negsuc 0)
 unfolding signedOf
 id-none = refl
 
-pub id-not : (v : ℕ) → 65_535 < v → (v ≡ 4_294_967_295 → ⊥) → v < 2 ^ 32 → cond (fits idField (signedOf v)) (number 0 (signedOf v)) bad ≡ bad
-id-not v l d m = by-sign (λ z. cond (fits idField z) (number 0 z) bad ≡ bad) v (λ q. rw (lt-leb v 65_535 l)) (λ q. rw (lt-leb (4_294_967_295 - v) 0 (omega arith)))
+pub id-not : (v : ℕ) → idCount ≤ v → (v ≡ 4_294_967_295 → ⊥) → v < 2 ^ 32 → cond (fits idField (signedOf v)) (number 0 (signedOf v)) bad ≡ bad
+id-not v l d m = by-sign (λ z. cond (fits idField z) (number 0 z) bad ≡ bad) v (λ q. rw (lt-leb v lastId (omega arith))) (λ q. rw (lt-leb (4_294_967_295 - v) 0 (omega arith)))
 
 module _ (u : Setup) (s : Small u) (v : ℕ) where
   pub x-in : v ≤ u .x → absAct (panelSeen u) 0x35 (signedOf v) ≡ number 1 (pos v)

@@ -2,7 +2,7 @@
 ghost use mathlib.Core.Path.{_≡_};
 ghost use mathlib.Core.Bool.{true, cond};
 ghost use Prim.Native.Nat.{_≤_};
-ghost use Rattle.model.specs.Panel.{base, setupGood, idField};
+ghost use Rattle.model.specs.Panel.{base, setupGood, idField, records};
 ghost use Rattle.model.specs.Table.{fits};
 ghost use Rattle.model.specs.Events.{bad, number, slotAct, synAct, absAct, classify};
 ghost use Rattle.model.specs.Records.{signedOf};
@@ -23,6 +23,9 @@ pub enum Act {
     Pressure(u32),
 }
 
+// The bits of -1, an unused slot's id.
+const UNUSED: u32 = 0xffff_ffff;
+
 fn syn_act(code: u16) -> Act
     ensures { λ r. ⌜ actOf r ≡ synAct code ⌝ }
 {
@@ -37,7 +40,7 @@ fn syn_act(code: u16) -> Act
 
 // A negative value has the bits of a number far above every n, so one comparison judges it.
 fn slot_act(n: usize, value: u32) -> Act
-    requires { ⌜ n ≤ 16 ⌝ }
+    requires { ⌜ n ≤ records ⌝ }
     ensures { λ r. ⌜ actOf r ≡ slotAct n (signedOf value) ⌝ }
 {
     let k = value as usize;
@@ -50,10 +53,10 @@ fn slot_act(n: usize, value: u32) -> Act
 fn id_act(value: u32) -> Act
     ensures { λ r. ⌜ actOf r ≡ cond (fits idField (signedOf value)) (number 0 (signedOf value)) bad ⌝ }
 {
-    if value == 4294967295 {
+    if value == UNUSED {
         return Act::Id(common::TrackingId(common::TrackingId::UNUSED));
     }
-    if value <= 65535 {
+    if value < common::TrackingId::COUNT {
         let id = value as i32;
         return Act::Id(common::TrackingId(id));
     }

@@ -8,7 +8,7 @@ use lib.Dec.{ltb→lt}
 use lib.IntN.{ℤ}
 use lib.ListN.{length, getD, set, length-set}
 use lib.Seq.{drop-set-lt}
-use Rattle.model.specs.Panel.{Panel}
+use Rattle.model.specs.Panel.{Panel, records}
 use Rattle.model.specs.Table as T
 use Rattle.model.specs.Events as E
 use Rattle.model.specs.Events.{classify}
@@ -61,20 +61,20 @@ ids-stay (y ∷ t) (suc c) x e = ap {B = List ℤ} (λ l. y .id .0 ∷ l) (ids-s
 
 -- What the loop holds of it: its size, that it was never used past n slots, and that its ids differ unless one was written.
 pub record Pending (n : ℕ) (written : Bool) (t : List Slot) : Type 0 where
-  pub sixteen : length t ≡ 16
+  pub full : length t ≡ records
   pub rest : sameFrom n t unusedAll
   pub apart : written ≡ false → T.idsDiffer (tableOf t) ≡ true
 
 -- A table whose ids nobody compared.
-pub uncompared : (n : ℕ) (t : List Slot) → length t ≡ 16 → sameFrom n t unusedAll → Pending n true t
-uncompared n t e r = record { sixteen = e; rest = r; apart = λ w. absurd (false≢true (sym w)) }
+pub uncompared : (n : ℕ) (t : List Slot) → length t ≡ records → sameFrom n t unusedAll → Pending n true t
+uncompared n t e r = record { full = e; rest = r; apart = λ w. absurd (false≢true (sym w)) }
 
 pub compared : (n : ℕ) (w o : Bool) (t : List Slot) → Pending n w t → T.idsDiffer (tableOf t) ≡ true → Pending n o t
-compared n w o t p d = record { sixteen = p .sixteen; rest = p .rest; apart = λ e. d }
+compared n w o t p d = record { full = p .full; rest = p .rest; apart = λ e. d }
 
 module _ (n : ℕ) (w : Bool) (t : List Slot) (p : Pending n w t) (c : ℕ) (x : Slot) (h : c < n) where
-  size-stays : length (set t c x) ≡ 16
-  size-stays = length-set t c x ∙ p .sixteen
+  size-stays : length (set t c x) ≡ records
+  size-stays = length-set t c x ∙ p .full
 
   rest-stays : sameFrom n (set t c x) unusedAll
   rest-stays = ap tableOf (drop-set-lt n t c x h) ∙ p .rest
@@ -83,7 +83,7 @@ module _ (n : ℕ) (w : Bool) (t : List Slot) (p : Pending n w t) (c : ℕ) (x :
   with-id = uncompared n (set t c x) size-stays rest-stays
 
   pub with-number : x .id .0 ≡ getD t c blank .id .0 → Pending n w (set t c x)
-  with-number e = record { sixteen = size-stays; rest = rest-stays; apart = λ f. ap T.liveDiffer (ids-stay t c x e) ∙ p .apart f }
+  with-number e = record { full = size-stays; rest = rest-stays; apart = λ f. ap T.liveDiffer (ids-stay t c x e) ∙ p .apart f }
 
 -- ---- a turn of the loop
 

@@ -6,10 +6,11 @@ ghost use Prim.Native.Nat.{_*_, _<_};
 ghost use lib.IntN.{pos};
 ghost use lib.ListN.{length};
 ghost use Rattle.model.specs.Numbers.{betweenZ};
-ghost use Rattle.model.specs.Panel.{base, setupGood};
+ghost use Rattle.model.specs.Panel.{base, setupGood, perSlot};
 ghost use Rattle.model.specs.Table.{goodSlot};
 ghost use Rattle.model.specs.Frame.{goodRow, valuesGood};
 ghost use Rattle.panel.specs.Seen.{setupOf, axesOf, panelSeen};
+use panel::PER_SLOT;
 use panel::Setup;
 
 // Whether v is 0 to top. The bits of a negative number are above every top, so one comparison does, where `common::within` needs two.
@@ -52,13 +53,13 @@ fn row_ok(setup: Setup, kind: i32, x: i32, y: i32, pressure: i32) -> bool
 
 // Whether all rows of a frame are good.
 pub fn values_ok(setup: Setup, frame: &[i32]) -> bool
-    requires { ⌜ (setupGood base (setupOf setup) ≡ true) × (length (now frame) ≡ 4 * setup .n) ⌝ }
+    requires { ⌜ (setupGood base (setupOf setup) ≡ true) × (length (now frame) ≡ perSlot * setup .n) ⌝ }
     ensures { λ r. ⌜ r ≡ valuesGood (panelSeen setup) (now (frame .entry)) ⌝ }
 {
     let n = setup.n;
     let mut s: usize = 0;
     while s < n {
-        let i = 4 * s;
+        let i = PER_SLOT * s;
         if !row_ok(setup, frame[i], frame[i + 1], frame[i + 2], frame[i + 3]) {
             return false;
         }

@@ -3,6 +3,7 @@ ghost use mathlib.Core.Path.{_≡_};
 ghost use mathlib.Core.List.{_∷_, []};
 ghost use Prim.Native.Nat.{_≤_, _*_};
 ghost use lib.ListN.{length};
+ghost use Rattle.model.specs.Panel.{perSlot, records};
 ghost use Rattle.model.specs.Table.{goodSlot, goodRecords};
 ghost use Rattle.model.specs.Frame.{rowsFrom};
 ghost use Rattle.model.specs.Calls.{imageTable, imageGood};
@@ -31,13 +32,13 @@ fn row_ok(setup: panel::Setup, id: i32, x: i32, y: i32, pressure: i32) -> bool
 
 // Whether every number is in its range.
 fn rows_ok(setup: panel::Setup, image: &[i32]) -> bool
-    requires { ⌜ (setup .n ≤ 16) × (length (now image) ≡ 4 * setup .n) ⌝ }
-    ensures { λ r. ⌜ r ≡ goodRecords (fieldsOf setup) (setup .n) (rowsFrom 4 (setup .n) (now (image .entry)) 0) ⌝ }
+    requires { ⌜ (setup .n ≤ records) × (length (now image) ≡ perSlot * setup .n) ⌝ }
+    ensures { λ r. ⌜ r ≡ goodRecords (fieldsOf setup) (setup .n) (rowsFrom perSlot (setup .n) (now (image .entry)) 0) ⌝ }
 {
     let n = setup.n;
     let mut i: usize = 0;
     while i < n {
-        let at = 4 * i;
+        let at = panel::PER_SLOT * i;
         if !row_ok(
             setup,
             image[at],
@@ -54,14 +55,14 @@ fn rows_ok(setup: panel::Setup, image: &[i32]) -> bool
 
 // The image's slots, and unused records from n up.
 pub fn image_table(setup: panel::Setup, image: &[i32]) -> [panel::Slot; panel::RECORDS]
-    requires { ⌜ (setup .n ≤ 16) × (length (now image) ≡ 4 * setup .n) ⌝ }
+    requires { ⌜ (setup .n ≤ records) × (length (now image) ≡ perSlot * setup .n) ⌝ }
     ensures { λ r. ⌜ r ≡ tableFrom (imageTable (panelSeen setup) (now (image .entry))) ⌝ }
 {
     let n = setup.n;
     let mut t = panel::unused_table();
     let mut i: usize = 0;
     while i < n {
-        let at = 4 * i;
+        let at = panel::PER_SLOT * i;
         let s = slot_of(image[at], image[at + 1], image[at + 2], image[at + 3]);
         t[i] = s;
         i += 1;
@@ -71,10 +72,10 @@ pub fn image_table(setup: panel::Setup, image: &[i32]) -> [panel::Slot; panel::R
 
 // Whether an image may be loaded, with this current slot.
 pub fn image_ok(setup: panel::Setup, image: &[i32], current: common::SlotNumber) -> bool
-    requires { ⌜ setup .n ≤ 16 ⌝ }
+    requires { ⌜ setup .n ≤ records ⌝ }
     ensures { λ r. ⌜ r ≡ imageGood (panelSeen setup) (now (image .entry)) (current .0) ⌝ }
 {
-    if image.len() != 4 * setup.n {
+    if image.len() != panel::PER_SLOT * setup.n {
         return false;
     }
     if !rows_ok(setup, image) {

@@ -9,13 +9,13 @@ use lib.Dec.{T, ltb, eqb, eqb-refl, lt→ltb, ltb→lt}
 use lib.IntN.{ℤ}
 use lib.ListN.{getD}
 use Rattle.model.proofs.Bools.{is-true, is-false, both-left, both-right, eqZ-refl}
-use Rattle.model.proofs.Tables.{same-past, place, places}
+use Rattle.model.proofs.Tables.{same-past, place, places, good-done}
 use Rattle.model.proofs.Follow.{asks}
 use Rattle.model.specs.Numbers.{eqZ}
 use Rattle.model.specs.Panel.{Field, Panel, slotCode, unlisted, codesDiffer, allCarried, fieldCodes, tellable}
 use Rattle.model.specs.Table.{Slot, Table, fits, goodSlot, goodPlace, goodRecords}
 use Rattle.model.specs.Events.{Act, number, later, numberAct, classify}
-use Rattle.model.specs.Sending.{Sent, sendSlot, sendNumber, sendReport, unless, changes, opened, allChanges, otherChanges, body, closed, sending, codeOf, eventOf, lastOpened}
+use Rattle.model.specs.Sending.{Sent, sendSlot, sendNumber, sendReport, unless, changes, opened, allChanges, slotDone, otherChanges, body, closed, sending, codeOf, eventOf, lastOpened}
 
 -- ---- what may be sent
 
@@ -149,15 +149,6 @@ allChanges-good fs n k m (o ∷ old) (v ∷ new) l g h =
     (opened-place fs n k m o v l (place fs m o old g) (place fs m v new h))
     (allChanges-good fs n (suc k) (m - 1) old new (omega arith) (places fs m o old g) (places fs m v new h))
 
-otherChanges-good : (fs : List Field) (n c k m : ℕ) (old new : Table) → m ≡ n - k → T (goodRecords fs m old) → T (goodRecords fs m new) → AllGood fs n (otherChanges c k old new)
-otherChanges-good fs n c k m [] new l g h = tt
-otherChanges-good fs n c k m (o ∷ old) [] l g h = tt
-otherChanges-good fs n zero k m (o ∷ old) (v ∷ new) l g h = allChanges-good fs n (suc k) (m - 1) old new (omega arith) (places fs m o old g) (places fs m v new h)
-otherChanges-good fs n (suc c) k m (o ∷ old) (v ∷ new) l g h =
-    good-append fs n (opened k (changes 0 o v)) (otherChanges c (suc k) old new)
-    (opened-place fs n k m o v l (place fs m o old g) (place fs m v new h))
-    (otherChanges-good fs n c (suc k) (m - 1) old new (omega arith) (places fs m o old g) (places fs m v new h))
-
 changes-none : (i : ℕ) (old : Slot) → changes i old [] ≡ []
 changes-none i [] = refl
 changes-none i (o ∷ old) = refl
@@ -176,9 +167,9 @@ closed-good fs n (x ∷ xs) g = good-append fs n (x ∷ xs) (sendReport ∷ []) 
 pub sending-good : (fs : List Field) (n c : ℕ) (old new : Table) → T (goodRecords fs n old) → T (goodRecords fs n new) → AllGood fs n (sending c old new)
 sending-good fs n c old new g h =
     closed-good fs n (body c old new)
-    (good-append fs n (changes 0 (getD old c []) (getD new c [])) (otherChanges c 0 old new)
+    (good-append fs n (changes 0 (getD old c []) (getD new c [])) (otherChanges c old new)
     (current-good fs n c n old new g h)
-    (otherChanges-good fs n c 0 n old new (omega arith) g h))
+    (allChanges-good fs n 0 n (slotDone c old new) new (omega arith) (good-done fs n c old new g h) h))
 
 -- So the current slot afterwards is below n.
 pub last-below : (fs : List Field) (n c : ℕ) (xs : List Sent) → c < n → AllGood fs n xs → lastOpened c xs < n

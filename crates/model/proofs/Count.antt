@@ -11,7 +11,7 @@ use Rattle.model.proofs.Bools.{is-true, eqZ-refl}
 use Rattle.model.specs.Numbers.{eqZ}
 use Rattle.model.specs.Panel.{Panel, fieldCodes}
 use Rattle.model.specs.Table.{Slot, Table}
-use Rattle.model.specs.Sending.{Sent, sendNumber, sendReport, unless, changes, opened, allChanges, otherChanges, body, closed, sending, eventOf, eventsSent, oneUnless, sameSlot, changedIn, changedNumbers, changedSlots, changedOthers, fewest}
+use Rattle.model.specs.Sending.{Sent, sendNumber, sendReport, unless, changes, opened, allChanges, slotDone, otherChanges, body, closed, sending, eventOf, eventsSent, oneUnless, sameSlot, changedIn, changedNumbers, changedSlots, changedOthers, fewest}
 
 pub oneUnless-le : (b : Bool) → oneUnless b ≤ 1
 oneUnless-le true = omega arith
@@ -59,15 +59,43 @@ changedIn-none : (old : Slot) → changedIn old [] ≡ 0
 changedIn-none [] = refl
 changedIn-none (o ∷ old) = refl
 
-length-others : (d k : ℕ) (old new : Table) → changedIn (getD old d []) (getD new d []) + length (otherChanges d k old new) ≡ changedNumbers old new + changedOthers d old new
-length-others d k [] new = refl
-length-others d k (o ∷ old) [] = omega (arith, changedIn-none (getD (o ∷ old) d []))
-length-others zero k (o ∷ old) (v ∷ new) = omega (arith, length-all (suc k) old new)
-length-others (suc d) k (o ∷ old) (v ∷ new) = omega (arith, length-append (opened k (changes 0 o v)) (otherChanges d (suc k) old new), length-opened k o v, length-others d (suc k) old new)
+pub same-none : (old : Slot) → sameSlot old [] ≡ true
+same-none [] = refl
+same-none (o ∷ old) = refl
+
+-- ---- a slot and a table against themselves
+
+pub changedIn-self : (s : Slot) → changedIn s s ≡ 0
+changedIn-self [] = refl
+changedIn-self (v ∷ s) = rw (is-true (eqZ v v) (eqZ-refl v)) (omega (arith, changedIn-self s))
+
+pub changedNumbers-self : (t : Table) → changedNumbers t t ≡ 0
+changedNumbers-self [] = refl
+changedNumbers-self (s ∷ t) = omega (arith, changedIn-self s, changedNumbers-self t)
+
+pub sameSlot-self : (s : Slot) → sameSlot s s ≡ true
+sameSlot-self [] = refl
+sameSlot-self (v ∷ s) = rw (is-true (eqZ v v) (eqZ-refl v)) (sameSlot-self s)
+
+-- ---- slot c, and the others: what the slot itself changes, and what is still to change once it is done
+
+numbers-split : (c : ℕ) (old new : Table) → changedNumbers old new ≡ changedIn (getD old c []) (getD new c []) + changedNumbers (slotDone c old new) new
+numbers-split c [] new = refl
+numbers-split c (o ∷ old) [] = omega (arith, changedIn-none (getD (o ∷ old) c []))
+numbers-split zero (o ∷ old) (v ∷ new) = omega (arith, changedIn-self v)
+numbers-split (suc c) (o ∷ old) (v ∷ new) = omega (arith, numbers-split c old new)
+
+-- The changed slots are slot c, if it changed, and the others.
+pub slots-split : (c : ℕ) (old new : Table) → changedSlots old new ≡ oneUnless (sameSlot (getD old c []) (getD new c [])) + changedOthers c old new
+slots-split c [] new = refl
+slots-split c (o ∷ old) [] = omega (arith, ap oneUnless (same-none (getD (o ∷ old) c [])))
+slots-split zero (o ∷ old) (v ∷ new) = omega (arith, ap oneUnless (sameSlot-self v))
+slots-split (suc c) (o ∷ old) (v ∷ new) = omega (arith, slots-split c old new)
 
 length-body : (c : ℕ) (old new : Table) → length (body c old new) ≡ changedNumbers old new + changedOthers c old new
 length-body c old new =
-    omega (arith, length-append (changes 0 (getD old c []) (getD new c [])) (otherChanges c 0 old new), length-changes 0 (getD old c []) (getD new c []), length-others c 0 old new)
+    let now = changes 0 (getD old c []) (getD new c []) in
+    omega (arith, length-append now (otherChanges c old new), length-changes 0 (getD old c []) (getD new c []), length-all 0 (slotDone c old new) new, numbers-split c old new)
 
 -- ---- a changed slot has a changed number
 
@@ -85,12 +113,6 @@ slots-have-numbers [] new = omega arith
 slots-have-numbers (o ∷ old) [] = omega arith
 slots-have-numbers (o ∷ old) (v ∷ new) = omega (arith, slot-has-number o v, slots-have-numbers old new)
 
-pub others-le : (c : ℕ) (old new : Table) → changedOthers c old new ≤ changedSlots old new
-others-le c [] new = omega arith
-others-le c (o ∷ old) [] = omega arith
-others-le zero (o ∷ old) (v ∷ new) = omega arith
-others-le (suc c) (o ∷ old) (v ∷ new) = omega (arith, others-le c old new)
-
 -- ---- the count
 
 length-closed : (xs : List Sent) → length (closed xs) ≡ cond (eqb (length xs) 0) 0 (1 + length xs)
@@ -98,7 +120,7 @@ length-closed [] = refl
 length-closed (x ∷ xs) = rw (eqb·suc-zero (length xs)) (omega (arith, length-append (x ∷ xs) (sendReport ∷ [])))
 
 pub sending-count : (c : ℕ) (old new : Table) → length (sending c old new) ≡ fewest c old new
-sending-count c old new = length-closed (body c old new) ∙ by-numbers (length (body c old new)) (changedNumbers old new) (changedOthers c old new) (length-body c old new) (omega (arith, others-le c old new, slots-have-numbers old new))
+sending-count c old new = length-closed (body c old new) ∙ by-numbers (length (body c old new)) (changedNumbers old new) (changedOthers c old new) (length-body c old new) (omega (arith, slots-split c old new, slots-have-numbers old new))
   where
     by-numbers : (n a b : ℕ) → n ≡ a + b → b ≤ a → cond (eqb n 0) 0 (1 + n) ≡ cond (eqb a 0) 0 (1 + a + b)
     by-numbers n a b e l =
@@ -118,13 +140,3 @@ sending-count c old new = length-closed (body c old new) ∙ by-numbers (length 
 -- None if no number changes; else one, one for each changed number, and one for each changed slot other than the current.
 pub event-count : (p : Panel) (c : ℕ) (old new : Table) → length (eventsSent p c old new) ≡ fewest c old new
 event-count p c old new = length-map (sending c old new) (eventOf (fieldCodes (p .fields))) ∙ sending-count c old new
-
--- ---- a table against itself
-
-pub changedIn-self : (s : Slot) → changedIn s s ≡ 0
-changedIn-self [] = refl
-changedIn-self (v ∷ s) = rw (is-true (eqZ v v) (eqZ-refl v)) (omega (arith, changedIn-self s))
-
-pub changedNumbers-self : (t : Table) → changedNumbers t t ≡ 0
-changedNumbers-self [] = refl
-changedNumbers-self (s ∷ t) = omega (arith, changedIn-self s, changedNumbers-self t)

@@ -8,12 +8,12 @@ use lib.Dec.{T}
 use lib.IntN.{ℤ}
 use lib.ListN.{getD, set}
 use Rattle.model.proofs.Bools.{is-true, eqZ→eq}
-use Rattle.model.proofs.Tables.{Like, Alike, onSlot-onSlot, onSlot-id}
+use Rattle.model.proofs.Tables.{Like, Alike, alike-done, onSlot-onSlot, onSlot-id}
 use Rattle.model.specs.Numbers.{eqZ}
 use Rattle.model.specs.Table.{Slot, Table, idsDiffer}
 use Rattle.model.specs.Events.{Act, report, slot, number}
 use Rattle.model.specs.Reader.{Reader, follow, onSlot, step, steps}
-use Rattle.model.specs.Sending.{Sent, sendSlot, sendNumber, sendReport, unless, changes, opened, allChanges, otherChanges, body, closed, sending, lastOpened, currentAfter}
+use Rattle.model.specs.Sending.{Sent, sendSlot, sendNumber, sendReport, unless, changes, opened, allChanges, slotDone, otherChanges, body, closed, sending, lastOpened, currentAfter}
 
 -- What a sent thing asks of a reader.
 abbrev pub asks : Sent → Act
@@ -121,35 +121,15 @@ patchedAll [] (v ∷ new) h = absurd h
 patchedAll (o ∷ old) [] h = absurd h
 patchedAll (o ∷ old) (v ∷ new) h = patchAll-later 0 old new (patch 0 o v o) old ∙ ap₂ {C = Table} (λ x y. x ∷ y) (patched o v (h .0)) (patchedAll old new (h .1))
 
--- ---- all but the one d places on
+-- ---- the current slot done
 
-abbrev patchOthers : ℕ → ℕ → Table → Table → Table → Table
-patchOthers d k [] new p = p
-patchOthers d k (o ∷ old) [] p = p
-patchOthers zero k (o ∷ old) (v ∷ new) p = patchAll (suc k) old new p
-patchOthers (suc d) k (o ∷ old) (v ∷ new) p = patchOthers d (suc k) old new (onSlot p k (patch 0 o v))
-
-heeds-others : (s : Table) (d k : ℕ) (old new p : Table) (c : ℕ) → heeds (follow s p c) (otherChanges d k old new) ≡ follow s (patchOthers d k old new p) (lastOpened c (otherChanges d k old new))
-heeds-others s d k [] new p c = refl
-heeds-others s d k (o ∷ old) [] p c = refl
-heeds-others s zero k (o ∷ old) (v ∷ new) p c = heeds-all s (suc k) old new p c
-heeds-others s (suc d) k (o ∷ old) (v ∷ new) p c =
-    then s p (onSlot p k (patch 0 o v)) _ c (opened k (changes 0 o v)) (otherChanges d (suc k) old new)
-    (heeds-opened s p _ c k (changes 0 o v) (heeds-changes s k 0 o v p) (last-changes k 0 o v))
-    (heeds-others s d (suc k) old new (onSlot p k (patch 0 o v)) _)
-
-patchOthers-later : (d k : ℕ) (old new : Table) (x : Slot) (p : Table) → patchOthers d (suc k) old new (x ∷ p) ≡ x ∷ patchOthers d k old new p
-patchOthers-later d k [] new x p = refl
-patchOthers-later d k (o ∷ old) [] x p = refl
-patchOthers-later zero k (o ∷ old) (v ∷ new) x p = patchAll-later (suc k) old new x p
-patchOthers-later (suc d) k (o ∷ old) (v ∷ new) x p = patchOthers-later d (suc k) old new x (onSlot p k (patch 0 o v))
-
-patchedOthers : (d : ℕ) (old new : Table) → Alike old new → patchOthers d 0 old new (onSlot old d (patch 0 (getD old d []) (getD new d []))) ≡ new
-patchedOthers d [] [] h = refl
-patchedOthers d [] (v ∷ new) h = absurd h
-patchedOthers d (o ∷ old) [] h = absurd h
-patchedOthers zero (o ∷ old) (v ∷ new) h = patchAll-later 0 old new (patch 0 o v o) old ∙ ap₂ {C = Table} (λ x y. x ∷ y) (patched o v (h .0)) (patchedAll old new (h .1))
-patchedOthers (suc d) (o ∷ old) (v ∷ new) h = patchOthers-later d 0 old new (patch 0 o v o) _ ∙ ap₂ {C = Table} (λ x y. x ∷ y) (patched o v (h .0)) (patchedOthers d old new (h .1))
+-- The current slot's changes make it as in the new table.
+patched-slot : (c : ℕ) (old new : Table) → Alike old new → onSlot old c (patch 0 (getD old c []) (getD new c [])) ≡ slotDone c old new
+patched-slot c [] [] h = refl
+patched-slot c [] (v ∷ new) h = absurd h
+patched-slot c (o ∷ old) [] h = absurd h
+patched-slot zero (o ∷ old) (v ∷ new) h = ap {B = Table} (λ x. x ∷ old) (patched o v (h .0))
+patched-slot (suc c) (o ∷ old) (v ∷ new) h = ap {B = Table} (λ t. o ∷ t) (patched-slot c old new (h .1))
 
 -- ---- the frame
 
@@ -158,11 +138,11 @@ pub heeds-body : (old new : Table) (c : ℕ) → Alike old new → heeds (follow
 heeds-body old new c h =
     let o = getD old c [] in
     let v = getD new c [] in
-    let q = onSlot old c (patch 0 o v) in
-    let k = lastOpened (lastOpened c (changes 0 o v)) (otherChanges c 0 old new) in
-    then old old q new c (changes 0 o v) (otherChanges c 0 old new)
-    (heeds-changes old c 0 o v old ∙ ap (λ j. follow old q j) (sym (last-changes c 0 o v)))
-    (heeds-others old c 0 old new q _ ∙ ap (λ t. follow old t k) (patchedOthers c old new h))
+    let q = slotDone c old new in
+    let k = lastOpened (lastOpened c (changes 0 o v)) (otherChanges c old new) in
+    then old old q new c (changes 0 o v) (otherChanges c old new)
+    (heeds-changes old c 0 o v old ∙ ap₂ (λ t j. follow old t j) (patched-slot c old new h) (sym (last-changes c 0 o v)))
+    (heeds-all old 0 q new q _ ∙ ap (λ t. follow old t k) (patchedAll q new (alike-done c old new h)))
 
 heeds-closed : (old new : Table) (c : ℕ) (xs : List Sent) → T (idsDiffer new) → heeds (follow old old c) xs ≡ follow old new (lastOpened c xs)
     → heeds (follow old old c) (closed xs) ≡ follow new new (lastOpened c (closed xs))

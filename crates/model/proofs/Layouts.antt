@@ -10,7 +10,7 @@ use lib.ListN.{length}
 use Rattle.model.proofs.Bools.{both, both-left, both-right}
 use Rattle.model.proofs.FreshSteady.{setup-slots}
 use Rattle.model.specs.Numbers.{between, betweenZ}
-use Rattle.model.specs.Panel.{Axis, Layout, Setup, largestGood, setupGood, idField, axisFields, panelOf, slotCode, codesDiffer, carried, allCarried, fieldCodes, tellable, axesCarried, axisCodes, goodLayout}
+use Rattle.model.specs.Panel.{Axis, Layout, Setup, largestGood, setupGood, idField, axisFields, panelOf, slotCode, codesDiffer, carried, allCarried, fieldCodes, tellable, axesCarried, axisCodes, goodLayout, idCount}
 
 -- The axes' fields have the axes' codes.
 codes-same : (axes : List Axis) (largest : List ℕ) → T (largestGood axes largest) → fieldCodes (axisFields axes largest) ≡ axisCodes axes
@@ -33,16 +33,16 @@ axes-carried (a ∷ axes) (v ∷ vs) c g =
     (axes-carried axes vs (both-right (ltb (a .code) 65_536 && ltb (a .most) 2_147_483_648) _ c) (both-right (between 1 (a .most) v) _ g))
 
 -- The parts of `goodLayout`.
-pub few-records : (l : Layout) → T (goodLayout l) → l .records + l .records < 65_536
+pub few-records : (l : Layout) → T (goodLayout l) → l .records + l .records < idCount
 few-records l g =
-    let few = ltb (l .records + l .records) 65_536 in
+    let few = ltb (l .records + l .records) idCount in
     let differ = codesDiffer (slotCode ∷ idField .code ∷ axisCodes (l .axes)) in
-    ltb→lt (l .records + l .records) 65_536 (both-left few differ (both-left (few && differ) _ g))
+    ltb→lt (l .records + l .records) idCount (both-left few differ (both-left (few && differ) _ g))
 
 -- The panel of a good setup can be told apart and carried.
 pub panel-tellable : (l : Layout) (u : Setup) → T (goodLayout l) → T (setupGood l u) → T (tellable (panelOf l u))
 panel-tellable l u g s =
-    let few = ltb (l .records + l .records) 65_536 in
+    let few = ltb (l .records + l .records) idCount in
     let differ = codesDiffer (slotCode ∷ idField .code ∷ axisCodes (l .axes)) in
     let largest = both-right (between 1 (l .records) (u .slots)) _ s in
     let below : u .slots < 2_147_483_648 = omega (arith, few-records l g, setup-slots l u s .1) in

@@ -6,10 +6,10 @@ use Prim.Native.Nat.{ℕ, zero, suc, _+_, _≤_, _<_}
 use native.Mathlib.Omega.{arith}
 use lib.Dec.{T, leb, leb→le, nleb→lt, eqb}
 use lib.IntN.{ℤ}
-use lib.ListN.{length, set, length-map}
+use lib.ListN.{length, getD, set, length-map}
 use borrow.Author.Tests.{eqb-false}
 use Rattle.model.proofs.Lost.{never-follows}
-use Rattle.model.proofs.Count.{oneUnless-le, others-le, slots-have-numbers, changedNumbers-self, event-count}
+use Rattle.model.proofs.Count.{oneUnless-le, slots-split, slots-have-numbers, changedNumbers-self, event-count}
 use Rattle.model.specs.Numbers.{eqZ}
 use Rattle.model.specs.Panel.{Panel}
 use Rattle.model.specs.Table.{Slot, Table, idsDiffer}
@@ -42,27 +42,21 @@ others-set (s ∷ p) (suc c) f [] = refl
 others-set (s ∷ p) zero f (v ∷ new) = refl
 others-set (s ∷ p) (suc c) f (v ∷ new) = omega (arith, others-set p c f new)
 
--- Another current slot takes one changed slot away at most.
-slots-le : (c : ℕ) (p new : Table) → changedSlots p new ≤ suc (changedOthers c p new)
-slots-le c [] new = omega arith
-slots-le c (s ∷ p) [] = omega arith
-slots-le zero (s ∷ p) (v ∷ new) = omega (arith, oneUnless-le (sameSlot s v))
-slots-le (suc c) (s ∷ p) (v ∷ new) = omega (arith, slots-le c p new)
-
 -- ---- any list of acts
 
 abbrev need : ℕ → Table → Table → ℕ
 need c p new = 1 + changedNumbers p new + changedOthers c p new
 
 need-self : (c : ℕ) (p new : Table) → p ≡ new → need c p new ≡ 1
-need-self c p new e = rw e (omega (arith, changedNumbers-self new, others-le c new new, slots-have-numbers new new))
+need-self c p new e = rw e (omega (arith, changedNumbers-self new, slots-split c new new, slots-have-numbers new new))
 
 least-acts : (new : Table) (xs : List Act) (s p : Table) (c : ℕ) → (s ≡ new → ⊥) → steps (follow s p c) xs .mode ≡ following → steps (follow s p c) xs .shown ≡ new → need c p new ≤ length xs
 least-acts new [] s p c ne m e = absurd (ne e)
 least-acts new (skip ∷ xs) s p c ne m e = omega (arith, least-acts new xs s p c ne m e)
 least-acts new (bad ∷ xs) s p c ne m e = absurd (never-follows _ xs tt m)
 least-acts new (loss ∷ xs) s p c ne m e = absurd (never-follows _ xs tt m)
-least-acts new (slot k ∷ xs) s p c ne m e = omega (arith, least-acts new xs s p k ne m e, others-le c p new, slots-le k p new)
+least-acts new (slot k ∷ xs) s p c ne m e =
+    omega (arith, least-acts new xs s p k ne m e, slots-split c p new, slots-split k p new, oneUnless-le (sameSlot (getD p k []) (getD new k [])))
 least-acts new (number i v ∷ xs) s p c ne m e =
     omega (arith, least-acts new xs s (onSlot p c (λ x. set x i v)) c ne m e, numbers-set p c i v new, others-set p c (λ x. set x i v) new)
 least-acts new (report ∷ xs) s p c ne m e =

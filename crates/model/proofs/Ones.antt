@@ -10,7 +10,7 @@ use lib.Count.{ones, ones-step}
 use lib.ListN.{length, getD}
 use Rattle.model.proofs.Bools.{is-true, both-right, eqZ-refl}
 use Rattle.model.proofs.Tables.{same-past, place, good-records}
-use Rattle.model.proofs.Count.{oneUnless-le, changedIn-self, event-count}
+use Rattle.model.proofs.Count.{oneUnless-le, same-none, changedIn-self, sameSlot-self, event-count}
 use Rattle.model.specs.Numbers.{eqZ}
 use Rattle.model.specs.Panel.{Field, Panel}
 use Rattle.model.specs.Table.{Slot, Table, fits, goodSlot, goodPlace, goodRecords, goodTable}
@@ -34,10 +34,6 @@ no-bit : (k : ℕ) → bitOf k 0 ≡ 0
 no-bit zero = omega arith
 no-bit (suc k) = let z : 0 / 2 ≡ 0 = omega arith in ap (bitOf k) z ∙ no-bit k
 
-same-none : (s : Slot) → sameSlot s [] ≡ true
-same-none [] = refl
-same-none (v ∷ s) = refl
-
 -- Bit s is for slot s: 1 if any of its numbers changed, else 0; past the tables there is none.
 pub mask-bit : (old new : Table) (k : ℕ) → bitOf k (changedMask old new) ≡ oneUnless (sameSlot (getD old k []) (getD new k []))
 mask-bit [] new k = no-bit k
@@ -56,10 +52,6 @@ mask-below (o ∷ old) [] = omega (arith, pow-suc 2 (length old), mask-below old
 mask-below (o ∷ old) (v ∷ new) = omega (arith, pow-suc 2 (length old), oneUnless-le (sameSlot o v), mask-below old new)
 
 -- ---- the limit
-
-sameSlot-self : (s : Slot) → sameSlot s s ≡ true
-sameSlot-self [] = refl
-sameSlot-self (v ∷ s) = rw (is-true (eqZ v v) (eqZ-refl v)) (sameSlot-self s)
 
 -- A table that stays has no changed slot.
 pub mask-self : (t : Table) → changedMask t t ≡ 0
@@ -89,11 +81,12 @@ slots-limit fs zero (o ∷ old) (v ∷ new) g h =
     omega (arith, subst (λ w. oneUnless (sameSlot o w) ≡ 0) (same-past fs o v (place fs zero o old g) (place fs zero v new h)) (ap oneUnless (sameSlot-self o)), slots-limit fs zero old new (both-right (goodPlace fs zero o) _ g) (both-right (goodPlace fs zero v) _ h))
 slots-limit fs (suc n) (o ∷ old) (v ∷ new) g h = omega (arith, oneUnless-le (sameSlot o v), slots-limit fs n old new (both-right (goodSlot fs o) _ g) (both-right (goodSlot fs v) _ h))
 
+-- Once a slot of the panel is done, one less than its n slots can change.
 others-limit : (fs : List Field) (n c : ℕ) (old new : Table) → c < n → T (goodRecords fs n old) → T (goodRecords fs n new) → suc (changedOthers c old new) ≤ n
 others-limit fs n c [] new l g h = omega arith
 others-limit fs n c (o ∷ old) [] l g h = omega arith
 others-limit fs zero c (o ∷ old) (v ∷ new) l g h = absurd (omega arith)
-others-limit fs (suc n) zero (o ∷ old) (v ∷ new) l g h = omega (arith, slots-limit fs n old new (both-right (goodSlot fs o) _ g) (both-right (goodSlot fs v) _ h))
+others-limit fs (suc n) zero (o ∷ old) (v ∷ new) l g h = omega (arith, ap oneUnless (sameSlot-self v), slots-limit fs n old new (both-right (goodSlot fs o) _ g) (both-right (goodSlot fs v) _ h))
 others-limit fs (suc n) (suc c) (o ∷ old) (v ∷ new) l g h = omega (arith, oneUnless-le (sameSlot o v), others-limit fs n c old new (omega arith) (both-right (goodSlot fs o) _ g) (both-right (goodSlot fs v) _ h))
 
 fewest-le : (c : ℕ) (old new : Table) → fewest c old new ≤ 1 + changedNumbers old new + changedOthers c old new

@@ -4,16 +4,15 @@ use mathlib.Core.Bool.{true, false, _&&_}
 use mathlib.Core.List.{List, [], _∷_, _++_}
 use Prim.Native.Nat.{ℕ, zero, suc, _+_, _-_, _*_, _/_, _%_, _^_, _≤_, _<_, min}
 use native.Mathlib.Omega.{arith}
-use native.Mathlib.Nat.{add-zero, zero-add, pow-suc}
+use native.Mathlib.Nat.{add-zero, pow-suc}
 use lib.Bits.{bitAnd, and-step, and-self, and-zero-r, and-le-l}
-use lib.Count.{ones, ones-step, trailingZeros, under}
+use lib.Count.{trailingZeros, under}
 use lib.ListN.{length, getD}
-use Rattle.model.proofs.Count.{oneUnless-le}
-use Rattle.model.proofs.Ones.{mask-ones}
+use Rattle.model.proofs.Count.{oneUnless-le, sameSlot-self}
 use Rattle.model.specs.Numbers.{eqZ}
 use Rattle.model.specs.Table.{Slot, Table}
-use Rattle.model.specs.Sending.{Sent, sendSlot, sendNumber, unless, changes, opened, allChanges, otherChanges, oneUnless, sameSlot, changedMask, changedSlots, changedOthers}
-use Rattle.model.specs.Order.{ifBit, ofMask, othersMask}
+use Rattle.model.specs.Sending.{Sent, sendSlot, sendNumber, unless, changes, opened, allChanges, slotDone, oneUnless, sameSlot, changedMask, othersMask}
+use Rattle.model.specs.Order.{ifBit, ofMask}
 
 -- ---- the lowest bit taken off
 
@@ -100,24 +99,24 @@ some-changes k i (x ∷ o) (y ∷ v) e =
       | false ↦ λ q. refl
     ]) e
 
-bit-opened : (k : ℕ) (o v : Slot) (l : List Sent) → l ≡ sendSlot k ∷ changes 0 o v → ifBit (oneUnless (sameSlot o v)) l ≡ opened k (changes 0 o v)
+bit-opened : (k : ℕ) (o v : Slot) (l : List Sent) → (sameSlot o v ≡ false → l ≡ sendSlot k ∷ changes 0 o v) → ifBit (oneUnless (sameSlot o v)) l ≡ opened k (changes 0 o v)
 bit-opened k o v l e =
     (elim (sameSlot o v) as (λ b. sameSlot o v ≡ b → ifBit (oneUnless b) l ≡ opened k (changes 0 o v)) [
       | true ↦ λ q. sym (ap (opened k) (no-changes 0 o v q))
-      | false ↦ λ q. e ∙ sym (some-changes k 0 o v q)
+      | false ↦ λ q. e q ∙ sym (some-changes k 0 o v q)
     ]) refl
 
--- f gives slot j's changes, opened by its number, for the slots from k on.
+-- f gives slot j's changes, opened by its number, for the changed slots from k on.
 abbrev pub Opens : ℕ → Table → Table → (ℕ → List Sent) → Type 0
-Opens k old new f = (j : ℕ) → j < length old → f j ≡ sendSlot (k + j) ∷ changes 0 (getD old j []) (getD new j [])
+Opens k old new f = (j : ℕ) → j < length old → sameSlot (getD old j []) (getD new j []) ≡ false → f j ≡ sendSlot (k + j) ∷ changes 0 (getD old j []) (getD new j [])
 
-opens-head : (k : ℕ) (o v : Slot) (old new : Table) (f : ℕ → List Sent) → Opens k (o ∷ old) (v ∷ new) f → f 0 ≡ sendSlot k ∷ changes 0 o v
-opens-head k o v old new f e = let z : k + 0 ≡ k = omega arith in e 0 (omega arith) ∙ ap {B = List Sent} (λ j. sendSlot j ∷ changes 0 o v) z
+opens-head : (k : ℕ) (o v : Slot) (old new : Table) (f : ℕ → List Sent) → Opens k (o ∷ old) (v ∷ new) f → sameSlot o v ≡ false → f 0 ≡ sendSlot k ∷ changes 0 o v
+opens-head k o v old new f e q = let z : k + 0 ≡ k = omega arith in e 0 (omega arith) q ∙ ap {B = List Sent} (λ j. sendSlot j ∷ changes 0 o v) z
 
 opens-tail : (k : ℕ) (o v : Slot) (old new : Table) (f : ℕ → List Sent) → Opens k (o ∷ old) (v ∷ new) f → Opens (suc k) old new (λ j. f (suc j))
-opens-tail k o v old new f e j h =
+opens-tail k o v old new f e j h q =
     let z : k + suc j ≡ suc k + j = omega arith in
-    e (suc j) (omega arith) ∙ ap {B = List Sent} (λ i. sendSlot i ∷ changes 0 (getD old j []) (getD new j [])) z
+    e (suc j) (omega arith) q ∙ ap {B = List Sent} (λ i. sendSlot i ∷ changes 0 (getD old j []) (getD new j [])) z
 
 low-bit : (b m : ℕ) → b ≤ 1 → (b + 2 * m) % 2 ≡ b
 low-bit b m h = omega arith
@@ -129,50 +128,44 @@ mask-bit : (w b m : ℕ) (f : ℕ → List Sent) → b ≤ 1 → ofMask (suc w) 
 unfolding ofMask
 mask-bit w b m f h = ap₂ (λ d y. ifBit d (f 0) ++ ofMask w y (λ j. f (suc j))) (low-bit b m h) (high-bits b m h)
 
-mask-all : (k : ℕ) (old new : Table) (f : ℕ → List Sent) → Opens k old new f → ofMask (length old) (changedMask old new) f ≡ allChanges k old new
+-- The slots that the changed-slot number names are sent as the model sends them.
+pub mask-all : (k : ℕ) (old new : Table) (f : ℕ → List Sent) → Opens k old new f → ofMask (length old) (changedMask old new) f ≡ allChanges k old new
 mask-all k [] new f e = mask-none 0 f
 mask-all k (o ∷ old) [] f e = mask-none (suc (length old)) f
 mask-all k (o ∷ old) (v ∷ new) f e =
     mask-bit (length old) (oneUnless (sameSlot o v)) (changedMask old new) f (oneUnless-le (sameSlot o v))
     ∙ ap₂ {C = List Sent} (λ x y. x ++ y) (bit-opened k o v (f 0) (opens-head k o v old new f e)) (mask-all (suc k) old new (λ j. f (suc j)) (opens-tail k o v old new f e))
 
--- The slots that `othersMask` names are sent as the model sends the others.
-pub mask-others : (c k : ℕ) (old new : Table) (f : ℕ → List Sent) → Opens k old new f → ofMask (length old) (othersMask c old new) f ≡ otherChanges c k old new
-mask-others c k [] new f e = mask-none 0 f
-mask-others c k (o ∷ old) [] f e = mask-none (suc (length old)) f
-mask-others zero k (o ∷ old) (v ∷ new) f e =
-    let z : 2 * changedMask old new ≡ 0 + 2 * changedMask old new = omega arith in
-    ap (λ m. ofMask (suc (length old)) m f) z
-    ∙ mask-bit (length old) 0 (changedMask old new) f (omega arith)
-    ∙ mask-all (suc k) old new (λ j. f (suc j)) (opens-tail k o v old new f e)
-mask-others (suc c) k (o ∷ old) (v ∷ new) f e =
-    mask-bit (length old) (oneUnless (sameSlot o v)) (othersMask c old new) f (oneUnless-le (sameSlot o v))
-    ∙ ap₂ {C = List Sent} (λ x y. x ++ y) (bit-opened k o v (f 0) (opens-head k o v old new f e)) (mask-others c (suc k) old new (λ j. f (suc j)) (opens-tail k o v old new f e))
+-- ---- slot c done
 
--- ---- its ones, and its sum with the current slot's bit
+pub length-done : (c : ℕ) (old new : Table) → length (slotDone c old new) ≡ length old
+length-done c [] new = refl
+length-done c (o ∷ old) [] = refl
+length-done zero (o ∷ old) (v ∷ new) = refl
+length-done (suc c) (o ∷ old) (v ∷ new) = ap suc (length-done c old new)
 
--- The ones of `othersMask` are the slot term of the event count.
-pub others-ones : (c : ℕ) (old new : Table) → ones (othersMask c old new) ≡ changedOthers c old new
-unfolding ones
-others-ones c [] new = refl
-others-ones c (o ∷ old) [] = refl
-others-ones zero (o ∷ old) (v ∷ new) =
-    let m = changedMask old new in
-    let low : 2 * m % 2 ≡ 0 = omega arith in
-    let up : 2 * m / 2 ≡ m = omega arith in
-    ones-step (2 * m) ∙ ap₂ (λ x y. x + ones y) low up ∙ ap (λ x. 0 + x) (mask-ones old new) ∙ zero-add (changedSlots old new)
-others-ones (suc c) (o ∷ old) (v ∷ new) =
-    let b = oneUnless (sameSlot o v) in
-    let m = othersMask c old new in
-    ones-step (b + 2 * m) ∙ ap₂ (λ x y. x + ones y) (low-bit b m (oneUnless-le (sameSlot o v))) (high-bits b m (oneUnless-le (sameSlot o v))) ∙ ap (λ x. b + x) (others-ones c old new)
+-- A slot that is still to change is as it was.
+still : (c j : ℕ) (old new : Table) → sameSlot (getD (slotDone c old new) j []) (getD new j []) ≡ false → getD (slotDone c old new) j [] ≡ getD old j []
+still c j [] new q = refl
+still c j (o ∷ old) [] q = refl
+still zero zero (o ∷ old) (v ∷ new) q = let z : _≡_ {A = ℕ} 0 1 = ap oneUnless (sym (sameSlot-self v) ∙ q) in absurd (omega arith)
+still zero (suc j) (o ∷ old) (v ∷ new) q = refl
+still (suc c) zero (o ∷ old) (v ∷ new) q = refl
+still (suc c) (suc j) (o ∷ old) (v ∷ new) q = still c j old new q
 
--- The changed slots' number, with the bit taken out of the slot that stands c places on.
+-- So what opens every slot opens those.
+pub opens-done : (c k : ℕ) (old new : Table) (f : ℕ → List Sent) → Opens k old new f → Opens k (slotDone c old new) new f
+opens-done c k old new f e j h q =
+    let w = still c j old new q in
+    e j (omega (arith, length-done c old new)) (sym (ap (λ s. sameSlot s (getD new j [])) w) ∙ q) ∙ ap {B = List Sent} (λ s. sendSlot (k + j) ∷ changes 0 s (getD new j [])) (sym w)
+
+-- The changed-slot number with slot c's bit taken out.
 pub mask-without : (c : ℕ) (old new : Table) → changedMask old new - bitAnd (changedMask old new) (2 ^ c) ≡ othersMask c old new
 mask-without c [] new = omega arith
 mask-without c (o ∷ old) [] = omega arith
 mask-without zero (o ∷ old) (v ∷ new) =
     let m = oneUnless (sameSlot o v) + 2 * changedMask old new in
-    omega (arith, oneUnless-le (sameSlot o v), and-step m 1, and-zero-r (m / 2))
+    omega (arith, oneUnless-le (sameSlot o v), ap oneUnless (sameSlot-self v), and-step m 1, and-zero-r (m / 2))
 mask-without (suc c) (o ∷ old) (v ∷ new) =
     let b = oneUnless (sameSlot o v) in
     let m = changedMask old new in

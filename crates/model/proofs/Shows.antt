@@ -14,7 +14,7 @@ use Rattle.model.specs.Numbers.{eqZ}
 use Rattle.model.specs.Table.{Slot, Table, idsDiffer}
 use Rattle.model.specs.Events.{report}
 use Rattle.model.specs.Reader.{follow, onSlot, nothing, oneShown, oneBad, plus, tallies}
-use Rattle.model.specs.Sending.{Sent, sendSlot, sendNumber, sendReport, unless, changes, opened, allChanges, otherChanges, body, closed, sending, lastOpened}
+use Rattle.model.specs.Sending.{Sent, sendSlot, sendNumber, sendReport, unless, changes, opened, allChanges, slotDone, otherChanges, body, closed, sending, lastOpened}
 
 -- ---- slots and numbers are not counted
 
@@ -49,14 +49,10 @@ quiet-all k [] new = tt
 quiet-all k (o ∷ old) [] = tt
 quiet-all k (o ∷ old) (v ∷ new) = quiet-append (opened k (changes 0 o v)) (allChanges (suc k) old new) (quiet-opened k (changes 0 o v) (quiet-changes 0 o v)) (quiet-all (suc k) old new)
 
-quiet-others : (c k : ℕ) (old new : Table) → Quiet (otherChanges c k old new)
-quiet-others c k [] new = tt
-quiet-others c k (o ∷ old) [] = tt
-quiet-others zero k (o ∷ old) (v ∷ new) = quiet-all (suc k) old new
-quiet-others (suc c) k (o ∷ old) (v ∷ new) = quiet-append (opened k (changes 0 o v)) (otherChanges c (suc k) old new) (quiet-opened k (changes 0 o v) (quiet-changes 0 o v)) (quiet-others c (suc k) old new)
-
 quiet-body : (c : ℕ) (old new : Table) → Quiet (body c old new)
-quiet-body c old new = quiet-append (changes 0 (getD old c []) (getD new c [])) (otherChanges c 0 old new) (quiet-changes 0 (getD old c []) (getD new c [])) (quiet-others c 0 old new)
+quiet-body c old new =
+    let now = changes 0 (getD old c []) (getD new c []) in
+    quiet-append now (otherChanges c old new) (quiet-changes 0 (getD old c []) (getD new c [])) (quiet-all 0 (slotDone c old new) new)
 
 quiet-tallies : (s p : Table) (c : ℕ) (xs : List Sent) → Quiet xs → tallies (follow s p c) (map asks xs) ≡ nothing
 quiet-tallies s p c [] q = refl

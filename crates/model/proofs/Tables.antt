@@ -11,6 +11,7 @@ use Rattle.model.specs.Numbers.{eqZ}
 use Rattle.model.specs.Panel.{Field, Panel}
 use Rattle.model.specs.Table.{Slot, Table, fits, goodSlot, unusedSlot, eqSlot, eqTable, goodPlace, goodRecords, goodTable}
 use Rattle.model.specs.Reader.{onSlot}
+use Rattle.model.specs.Sending.{slotDone}
 
 -- ---- equal
 
@@ -62,6 +63,14 @@ like (f ∷ fs) [] v g k = absurd g
 like (f ∷ fs) (o ∷ os) [] g k = absurd k
 like (f ∷ fs) (o ∷ os) (v ∷ vs) g k = like fs os vs (both-right (fits f o) (goodSlot fs os) g) (both-right (fits f v) (goodSlot fs vs) k)
 
+-- A table with a slot done is like the new one still.
+pub alike-done : (c : ℕ) (old new : Table) → Alike old new → Alike (slotDone c old new) new
+alike-done c [] [] h = h
+alike-done c [] (v ∷ new) h = h
+alike-done c (o ∷ old) [] h = h
+alike-done zero (o ∷ old) (v ∷ new) h = (like-self v, h .1)
+alike-done (suc c) (o ∷ old) (v ∷ new) h = (h .0, alike-done c old new (h .1))
+
 -- Past the panel's slots two records are the same.
 pub same-past : (fs : List Field) (o v : Slot) → T (goodPlace fs zero o) → T (goodPlace fs zero v) → o ≡ v
 same-past fs o v g k = eqSlot→eq o (unusedSlot fs) g ∙ sym (eqSlot→eq v (unusedSlot fs) k)
@@ -76,9 +85,21 @@ pub place : (fs : List Field) (n : ℕ) (s : Slot) (t : Table) → T (goodRecord
 place fs zero s t g = both-left (goodPlace fs zero s) (goodRecords fs zero t) g
 place fs (suc n) s t g = both-left (goodSlot fs s) (goodRecords fs n t) g
 
+-- and put together
+replaced : (fs : List Field) (n : ℕ) (s : Slot) (t : Table) → T (goodPlace fs n s) → T (goodRecords fs (n - 1) t) → T (goodRecords fs n (s ∷ t))
+replaced fs zero s t g h = both (goodPlace fs zero s) (goodRecords fs zero t) g h
+replaced fs (suc n) s t g h = let e : suc n - 1 ≡ n = omega arith in both (goodSlot fs s) (goodRecords fs n t) g (subst (λ m. T (goodRecords fs m t)) e h)
+
 pub places : (fs : List Field) (n : ℕ) (s : Slot) (t : Table) → T (goodRecords fs n (s ∷ t)) → T (goodRecords fs (n - 1) t)
 places fs zero s t g = both-right (goodPlace fs zero s) (goodRecords fs zero t) g
 places fs (suc n) s t g = let e : n ≡ suc n - 1 = omega arith in subst (λ m. T (goodRecords fs m t)) e (both-right (goodSlot fs s) (goodRecords fs n t) g)
+
+-- A table with a slot done is as good as the two.
+pub good-done : (fs : List Field) (n c : ℕ) (old new : Table) → T (goodRecords fs n old) → T (goodRecords fs n new) → T (goodRecords fs n (slotDone c old new))
+good-done fs n c [] new g h = g
+good-done fs n c (o ∷ old) [] g h = g
+good-done fs n zero (o ∷ old) (v ∷ new) g h = replaced fs n v old (place fs n v new h) (places fs n o old g)
+good-done fs n (suc c) (o ∷ old) (v ∷ new) g h = replaced fs n o _ (place fs n o old g) (good-done fs (n - 1) c old new (places fs n o old g) (places fs n v new h))
 
 alike-records : (fs : List Field) (n : ℕ) (old new : Table) → length old ≡ length new → T (goodRecords fs n old) → T (goodRecords fs n new) → Alike old new
 alike-records fs n [] [] e g k = tt

@@ -8,9 +8,10 @@ use lib.IntN.{ℤ, pos}
 use lib.ListN.{length}
 use Rattle.model.proofs.Bools.{is-true}
 use Rattle.model.proofs.Ids.{pick-free}
+use Rattle.model.specs.Panel.{idCount, lastId}
 use Rattle.model.specs.Numbers.{eqZ}
 use Rattle.model.specs.Table.{Table, idOf, numbersOf, unheld}
-use Rattle.model.specs.Frame.{kindOf, Fate, none, goesOn, begins, fate, next, pick, freeId, slotAfter, takenAfter, counterAfter, tableFrom, counterFrom}
+use Rattle.model.specs.Frame.{kindOf, Fate, none, goesOn, begins, fate, next, pick, freeId, slotAfter, takenAfter, counterAfter, after, planned}
 
 -- ---- how many tries
 
@@ -29,12 +30,12 @@ pick-add (suc m) d taken k =
     ]) refl
 
 -- One of m + 1 numbers is free where no more than m are taken.
-pub freeId-short : (m : ℕ) (taken : List ℤ) (k : ℕ) → k < 65_536 → length taken ≤ m → m ≤ 65_535 → freeId taken k ≡ pick m taken k
+pub freeId-short : (m : ℕ) (taken : List ℤ) (k : ℕ) → k < idCount → length taken ≤ m → m ≤ lastId → freeId taken k ≡ pick m taken k
 unfolding freeId
 freeId-short m taken k l s q =
-    let e : 65_535 ≡ m + (65_535 - m) = omega arith in
-    ap (λ f. pick f taken k) e ∙ pick-add m (65_535 - m) taken k
-    ∙ pick-stays (65_535 - m) taken (pick m taken k) (is-true _ (pick-free m taken k l s (omega arith)))
+    let e : lastId ≡ m + (lastId - m) = omega arith in
+    ap (λ f. pick f taken k) e ∙ pick-add m (lastId - m) taken k
+    ∙ pick-stays (lastId - m) taken (pick m taken k) (is-true _ (pick-free m taken k l s (omega arith)))
 
 -- A try that fails leaves one try less, from the next number on.
 pub pick-held : (m : ℕ) (taken : List ℤ) (k : ℕ) → 0 < m → unheld (pos k) taken ≡ false → pick m taken k ≡ pick (m - 1) taken (next k)
@@ -54,30 +55,22 @@ pick-same (suc m) a b k e = ap₂ (λ t r. cond t k r) (e k) (pick-same m a b (n
 
 freeId-same : (a b : List ℤ) (k : ℕ) → Same a b → freeId a k ≡ freeId b k
 unfolding freeId
-freeId-same a b k e = pick-same 65_535 a b k e
+freeId-same a b k e = pick-same lastId a b k e
 
 taken-same : (f : Fate) (j : ℕ) (a b : List ℤ) → Same a b → Same (takenAfter f j a) (takenAfter f j b)
 taken-same none j a b e k = e k
 taken-same goesOn j a b e k = e k
 taken-same begins j a b e k = ap (λ t. not (eqZ (pos k) (pos j)) && t) (e k)
 
-pub table-same : (a b : List ℤ) (k : ℕ) (fr : List (List ℤ)) (t : Table) → Same a b → tableFrom a k fr t ≡ tableFrom b k fr t
-table-same a b k [] t e = refl
-table-same a b k (g ∷ fr) [] e = refl
-table-same a b k (g ∷ fr) (s ∷ t) e =
+-- The planned table and counter go by which ids are taken alone.
+pub planned-same : (a b : List ℤ) (k : ℕ) (fr : List (List ℤ)) (t : Table) → Same a b → planned a k fr t ≡ planned b k fr t
+planned-same a b k [] t e = refl
+planned-same a b k (g ∷ fr) [] e = refl
+planned-same a b k (g ∷ fr) (s ∷ t) e =
     let f = fate (kindOf g) (idOf s) in
     let j = freeId b k in
-    ap {B = Table} (λ i. slotAfter f i s (numbersOf g) ∷ tableFrom (takenAfter f i a) (counterAfter f i k) fr t) (freeId-same a b k e)
-    ∙ ap {B = Table} (λ r. slotAfter f j s (numbersOf g) ∷ r) (table-same (takenAfter f j a) (takenAfter f j b) (counterAfter f j k) fr t (taken-same f j a b e))
-
-pub counter-same : (a b : List ℤ) (k : ℕ) (fr : List (List ℤ)) (t : Table) → Same a b → counterFrom a k fr t ≡ counterFrom b k fr t
-counter-same a b k [] t e = refl
-counter-same a b k (g ∷ fr) [] e = refl
-counter-same a b k (g ∷ fr) (s ∷ t) e =
-    let f = fate (kindOf g) (idOf s) in
-    let j = freeId b k in
-    ap (λ i. counterFrom (takenAfter f i a) (counterAfter f i k) fr t) (freeId-same a b k e)
-    ∙ counter-same (takenAfter f j a) (takenAfter f j b) (counterAfter f j k) fr t (taken-same f j a b e)
+    ap (λ i. after (slotAfter f i s (numbersOf g) ∷ []) (planned (takenAfter f i a) (counterAfter f i k) fr t)) (freeId-same a b k e)
+    ∙ ap (after (slotAfter f j s (numbersOf g) ∷ [])) (planned-same (takenAfter f j a) (takenAfter f j b) (counterAfter f j k) fr t (taken-same f j a b e))
 
 -- A number put last is held as one put first.
 pub same-last : (v : ℤ) (l : List ℤ) → Same (v ∷ l) (l ++ v ∷ [])

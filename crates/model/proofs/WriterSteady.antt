@@ -12,9 +12,9 @@ use Rattle.model.proofs.Tables.{good-length, good-records, good-table}
 use Rattle.model.proofs.Codes.{sending-good, last-below}
 use Rattle.model.proofs.Ids.{fated, freeId-below, counter-below, ids-apart}
 use Rattle.model.specs.Numbers.{eqZ}
-use Rattle.model.specs.Panel.{Field, Panel, idField}
+use Rattle.model.specs.Panel.{Field, Panel, idField, idCount, lastId}
 use Rattle.model.specs.Table.{Slot, Table, idOf, numbersOf, live, ids, idsDiffer, fits, goodSlot, goodRecords, goodTable}
-use Rattle.model.specs.Frame.{kindOf, goodRow, goodRows, Fate, none, goesOn, begins, fate, freeId, tableFrom, newTable, newCounter}
+use Rattle.model.specs.Frame.{kindOf, goodRow, goodRows, Fate, none, goesOn, begins, fate, freeId, planned, newTable, newCounter}
 use Rattle.model.specs.Sending.{sending, currentAfter}
 use Rattle.model.specs.States.{Writer, goodWriter}
 
@@ -24,7 +24,7 @@ pub record SteadyWriter (p : Panel) (w : Writer) : Type 0 where
   pub good : T (goodTable p (w .table))
   pub differs : T (idsDiffer (w .table))
   pub below : w .current < p .slots
-  pub counts : w .counter < 65_536
+  pub counts : w .counter < idCount
 
 pub writer-facts : (p : Panel) (w : Writer) → T (goodWriter p w) → SteadyWriter p w
 writer-facts p w g =
@@ -37,7 +37,7 @@ writer-facts p w g =
       good = both-left a _ y;
       differs = both-right a _ y;
       below = ltb→lt (w .current) (p .slots) (both-right (a && b) _ x);
-      counts = ltb→lt (w .counter) 65_536 (both-right (a && b && c) _ g);
+      counts = ltb→lt (w .counter) idCount (both-right (a && b && c) _ g);
     }
 
 pub facts-writer : (p : Panel) (w : Writer) → SteadyWriter p w → T (goodWriter p w)
@@ -45,7 +45,7 @@ facts-writer p w s =
     let a = goodTable p (w .table) in
     let b = idsDiffer (w .table) in
     let c = ltb (w .current) (p .slots) in
-    both (a && b && c) _ (both (a && b) _ (both a _ (s .good) (s .differs)) (lt→ltb (w .current) (p .slots) (s .below))) (lt→ltb (w .counter) 65_536 (s .counts))
+    both (a && b && c) _ (both (a && b) _ (both a _ (s .good) (s .differs)) (lt→ltb (w .current) (p .slots) (s .below))) (lt→ltb (w .counter) idCount (s .counts))
 
 -- ---- a frame's table is good
 
@@ -68,8 +68,8 @@ contact-kind kind id c =
       | false ↦ λ x. refl
     ]) c
 
-id-fits : (j : ℕ) → j < 65_536 → T (fits idField (pos j))
-id-fits j l = le→leb j 65_535 (omega arith)
+id-fits : (j : ℕ) → j < idCount → T (fits idField (pos j))
+id-fits j l = le→leb j lastId (omega arith)
 
 slot-id : (axes : List Field) (s : Slot) → T (goodSlot (idField ∷ axes) s) → T (fits idField (idOf s))
 slot-id axes [] g = absurd g
@@ -80,8 +80,8 @@ slot-numbers axes [] g = absurd g
 slot-numbers axes (v ∷ s) g = both-right (fits idField v) (goodSlot axes s) g
 
 -- No more rows than the panel has slots, all good, keep good records good.
-rows-good : (axes : List Field) (n : ℕ) (taken : List ℤ) (k : ℕ) (fr : List (List ℤ)) (t : Table) → k < 65_536 → length fr ≤ n → T (goodRows axes fr)
-    → T (goodRecords (idField ∷ axes) n t) → T (goodRecords (idField ∷ axes) n (tableFrom taken k fr t))
+rows-good : (axes : List Field) (n : ℕ) (taken : List ℤ) (k : ℕ) (fr : List (List ℤ)) (t : Table) → k < idCount → length fr ≤ n → T (goodRows axes fr)
+    → T (goodRecords (idField ∷ axes) n t) → T (goodRecords (idField ∷ axes) n (planned taken k fr t .table))
 rows-good axes n taken k [] t q l r g = g
 rows-good axes zero taken k (x ∷ fr) t q l r g = absurd (omega arith)
 rows-good axes (suc n) taken k (x ∷ fr) [] q l r g = absurd g
@@ -98,7 +98,7 @@ rows-good axes (suc n) taken k (x ∷ fr) (s ∷ t) q l r g =
       | begins ↦ λ c. both (goodSlot fs (pos j ∷ numbersOf x)) _ (both (fits idField (pos j)) _ (id-fits j lj) (c tt)) (rows-good axes n (pos j ∷ taken) _ fr t (omega arith) (omega arith) rows more)
     ]) (λ c. row-numbers axes x (both-left (goodRow axes x) (goodRows axes fr) r) (contact-kind (kindOf x) (idOf s) c))
 
-pub length-rows : (taken : List ℤ) (k : ℕ) (fr : List (List ℤ)) (t : Table) → length (tableFrom taken k fr t) ≡ length t
+pub length-rows : (taken : List ℤ) (k : ℕ) (fr : List (List ℤ)) (t : Table) → length (planned taken k fr t .table) ≡ length t
 length-rows taken k [] t = refl
 length-rows taken k (x ∷ fr) [] = refl
 length-rows taken k (x ∷ fr) (s ∷ t) = ap suc (length-rows _ _ fr t)
@@ -108,7 +108,7 @@ abbrev pub afterRows : List (List ℤ) → Writer → Writer
 afterRows fr w = record { table = newTable (w .counter) fr (w .table); current = currentAfter (w .current) (w .table) (newTable (w .counter) fr (w .table)); counter = newCounter (w .counter) fr (w .table) }
 
 -- Good rows keep a writer well formed, on any panel whose first field is the id and that holds few enough records.
-pub rows-steady : (n m : ℕ) (axes : List Field) (w : Writer) (fr : List (List ℤ)) → m + m < 65_536 → length fr ≤ n → T (goodRows axes fr)
+pub rows-steady : (n m : ℕ) (axes : List Field) (w : Writer) (fr : List (List ℤ)) → m + m < idCount → length fr ≤ n → T (goodRows axes fr)
     → SteadyWriter (record { slots = n; records = m; fields = idField ∷ axes }) w → SteadyWriter (record { slots = n; records = m; fields = idField ∷ axes }) (afterRows fr w)
 rows-steady n m axes w fr small l r s =
     let p : Panel = record { slots = n; records = m; fields = idField ∷ axes } in

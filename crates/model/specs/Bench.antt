@@ -4,7 +4,7 @@ use mathlib.Core.List.{List, [], _∷_, _++_}
 use Prim.Native.Nat.{ℕ, _-_}
 use lib.IntN.{ℤ, pos, negsuc}
 use lib.ListN.{length, replicate}
-use Rattle.model.specs.Panel.{Setup, base}
+use Rattle.model.specs.Panel.{Setup, base, records}
 use Rattle.model.specs.Table.{Slot, Table}
 use Rattle.model.specs.Events.{Event}
 use Rattle.model.specs.Records.{bytesOf}
@@ -74,7 +74,7 @@ panel n = record { slots = n; largest = 4_000 ∷ 4_000 ∷ 255 ∷ [] }
 
 -- A writer of n slots: these slots and then unused records, the current slot and the counter.
 abbrev pub writer : ℕ → Table → ℕ → ℕ → WriterState
-writer n t c k = record { setup = panel n; writer = record { table = t ++ replicate (16 - length t) (at (negsuc 0) 0 0 0); current = c; counter = k } }
+writer n t c k = record { setup = panel n; writer = record { table = t ++ replicate (records - length t) (at (negsuc 0) 0 0 0); current = c; counter = k } }
 
 -- A row: a frame on a writer's state and a buffer of just the bytes that come out, accepted with so many events and these changed slots,
 -- and read back to the new table: one table shown, or none where nothing is sent.

@@ -1,12 +1,12 @@
 -- A frame: what becomes of each slot, which ids are given, the new table and the new counter. Assumes nothing.
 use mathlib.Core.Bool.{Bool, true, cond, _&&_, _||_}
-use mathlib.Core.List.{List, [], _∷_}
+use mathlib.Core.List.{List, [], _∷_, _++_}
 use Prim.Native.Nat.{ℕ, zero, suc, _+_, _*_, _%_}
 use lib.Dec.{eqb}
 use lib.IntN.{ℤ, pos}
 use lib.ListN.{length, getD}
 use Rattle.model.specs.Numbers.{eqZ, minusOne}
-use Rattle.model.specs.Panel.{Field, Panel}
+use Rattle.model.specs.Panel.{Field, Panel, idCount, lastId}
 use Rattle.model.specs.Table.{Slot, Table, idOf, numbersOf, live, unheld, ids, goodSlot}
 
 -- ---- flat runs of numbers, read k at a time
@@ -65,7 +65,7 @@ fate kind id = cond (eqZ kind (pos 0)) none (cond (eqZ kind (pos 2)) begins (con
 
 -- A number plus one, wrapped from 65,535 to 0.
 abbrev pub next : ℕ → ℕ
-next k = (k + 1) % 65_536
+next k = (k + 1) % idCount
 
 -- The first of k, k + 1, .. that is not taken, in m steps at most; the last number that they reach is not tried.
 abbrev pub pick : ℕ → List ℤ → ℕ → ℕ
@@ -74,7 +74,7 @@ pick (suc m) taken k = let r = pick m taken (next k) in cond (unheld (pos k) tak
 
 -- The id that a beginning contact takes: the first number from k on, wrapping, that is not taken. All 65,536 are within reach.
 unfoldable pub freeId : List ℤ → ℕ → ℕ
-freeId taken k = pick 65_535 taken k
+freeId taken k = pick lastId taken k
 
 -- ---- the table that a frame makes
 
@@ -96,28 +96,32 @@ counterAfter none j k = k
 counterAfter goesOn j k = k
 counterAfter begins j k = next j
 
--- The table after the rows, in rising slot order, where `taken` are the ids taken so far and k is the counter; records without a row stay.
-abbrev pub tableFrom : List ℤ → ℕ → List (List ℤ) → Table → Table
-tableFrom taken k [] t = t
-tableFrom taken k (g ∷ fr) [] = []
-tableFrom taken k (g ∷ fr) (s ∷ t) =
+-- What a frame plans: a table and a counter.
+pub record Planned : Type 0 where
+  pub table : Table
+  pub counter : ℕ
+
+-- The same, with slots in front of the table.
+abbrev pub after : Table → Planned → Planned
+after front p = record { table = front ++ p .table; counter = p .counter }
+
+-- The table and the counter after the rows, in rising slot order, where `taken` are the ids taken so far and k is the counter; records without a row stay.
+abbrev pub planned : List ℤ → ℕ → List (List ℤ) → Table → Planned
+planned taken k [] t = record { table = t; counter = k }
+planned taken k (g ∷ fr) [] = record { table = []; counter = k }
+planned taken k (g ∷ fr) (s ∷ t) =
     let f = fate (kindOf g) (idOf s) in
     let j = freeId taken k in
-    slotAfter f j s (numbersOf g) ∷ tableFrom (takenAfter f j taken) (counterAfter f j k) fr t
+    after (slotAfter f j s (numbersOf g) ∷ []) (planned (takenAfter f j taken) (counterAfter f j k) fr t)
 
--- The counter after the rows.
-abbrev pub counterFrom : List ℤ → ℕ → List (List ℤ) → Table → ℕ
-counterFrom taken k [] t = k
-counterFrom taken k (g ∷ fr) [] = k
-counterFrom taken k (g ∷ fr) (s ∷ t) =
-    let f = fate (kindOf g) (idOf s) in
-    let j = freeId taken k in
-    counterFrom (takenAfter f j taken) (counterAfter f j k) fr t
+-- What a frame makes of a table and a counter: every id of the old table is taken, an ending or replaced one too.
+abbrev pub framed : ℕ → List (List ℤ) → Table → Planned
+framed k fr old = planned (ids old) k fr old
 
--- The new table: every id of the old table is taken, an ending or replaced one too.
+-- The new table.
 abbrev pub newTable : ℕ → List (List ℤ) → Table → Table
-newTable k fr old = tableFrom (ids old) k fr old
+newTable k fr old = framed k fr old .table
 
 -- The new counter.
 abbrev pub newCounter : ℕ → List (List ℤ) → Table → ℕ
-newCounter k fr old = counterFrom (ids old) k fr old
+newCounter k fr old = framed k fr old .counter

@@ -45,9 +45,16 @@ pub record Panel : Type 0 where
   pub records : ℕ
   pub fields : List Field
 
--- ABS_MT_TRACKING_ID, -1 for unused, else 0 to 65,535.
+-- The last tracking id, and how many there are from 0 on.
+abbrev pub lastId : ℕ
+lastId = 65_535
+
+abbrev pub idCount : ℕ
+idCount = 65_536
+
+-- ABS_MT_TRACKING_ID, -1 for unused, else 0 to the last id.
 abbrev pub idField : Field
-idField = record { code = 0x39; low = minusOne; high = pos 65_535 }
+idField = record { code = 0x39; low = minusOne; high = pos lastId }
 
 -- The fields of the axes, each 0 to its largest value; an axis or a largest value that has no partner gives none.
 abbrev pub axisFields : List Axis → List ℕ → List Field
@@ -101,12 +108,20 @@ axisCodes axes = map (λ (a : Axis). a .code) axes
 
 -- Twice the records are fewer than there are ids, the codes all differ, and events can carry them.
 abbrev pub goodLayout : Layout → Bool
-goodLayout l = ltb (l .records + l .records) 65_536 && codesDiffer (slotCode ∷ idField .code ∷ axisCodes (l .axes)) && axesCarried (l .axes)
+goodLayout l = ltb (l .records + l .records) idCount && codesDiffer (slotCode ∷ idField .code ∷ axisCodes (l .axes)) && axesCarried (l .axes)
+
+-- How many slot records a table of document 01's layout holds.
+abbrev pub records : ℕ
+records = 16
+
+-- How many numbers a slot has in it: id, x, y and pressure.
+abbrev pub perSlot : ℕ
+perSlot = 4
 
 -- Document 01's layout: sixteen records; ABS_MT_POSITION_X and _Y up to 32,767, ABS_MT_PRESSURE up to 255.
 abbrev pub base : Layout
 base =
     record {
-      records = 16;
+      records = records;
       axes = record { code = 0x35; most = 32_767 } ∷ record { code = 0x36; most = 32_767 } ∷ record { code = 0x3a; most = 255 } ∷ [];
     }

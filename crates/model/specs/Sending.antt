@@ -40,16 +40,20 @@ allChanges k [] new = []
 allChanges k (o ∷ old) [] = []
 allChanges k (o ∷ old) (v ∷ new) = opened k (changes 0 o v) ++ allChanges (suc k) old new
 
--- The same without the slot that stands c places on.
-abbrev pub otherChanges : ℕ → ℕ → Table → Table → List Sent
-otherChanges c k [] new = []
-otherChanges c k (o ∷ old) [] = []
-otherChanges zero k (o ∷ old) (v ∷ new) = allChanges (suc k) old new
-otherChanges (suc c) k (o ∷ old) (v ∷ new) = opened k (changes 0 o v) ++ otherChanges c (suc k) old new
+-- The old table with slot c done: as it is in the new one. What is still to change then is what the other slots change.
+abbrev pub slotDone : ℕ → Table → Table → Table
+slotDone c [] new = []
+slotDone c (o ∷ old) [] = o ∷ old
+slotDone zero (o ∷ old) (v ∷ new) = v ∷ old
+slotDone (suc c) (o ∷ old) (v ∷ new) = o ∷ slotDone c old new
+
+-- The changes of all slots other than slot c.
+abbrev pub otherChanges : ℕ → Table → Table → List Sent
+otherChanges c old new = allChanges 0 (slotDone c old new) new
 
 -- The current slot's changes first, not opened; then the others.
 abbrev pub body : ℕ → Table → Table → List Sent
-body c old new = changes 0 (getD old c []) (getD new c []) ++ otherChanges c 0 old new
+body c old new = changes 0 (getD old c []) (getD new c []) ++ otherChanges c old new
 
 -- Last comes the report; if nothing changed, nothing is sent.
 abbrev pub closed : List Sent → List Sent
@@ -120,14 +124,11 @@ changedSlots [] new = 0
 changedSlots (o ∷ old) [] = 0
 changedSlots (o ∷ old) (v ∷ new) = oneUnless (sameSlot o v) + changedSlots old new
 
--- How many changed other than the one that stands c places on.
+-- How many slots changed other than slot c.
 abbrev pub changedOthers : ℕ → Table → Table → ℕ
-changedOthers c [] new = 0
-changedOthers c (o ∷ old) [] = 0
-changedOthers zero (o ∷ old) (v ∷ new) = changedSlots old new
-changedOthers (suc c) (o ∷ old) (v ∷ new) = oneUnless (sameSlot o v) + changedOthers c old new
+changedOthers c old new = changedSlots (slotDone c old new) new
 
--- Demand 3's number: none if no number changes, else one, one for each changed number, and one for each changed slot but the current.
+-- Demand 3's number: none if no number changes, else one, one for each changed number, and one for each changed slot other than the current slot c.
 abbrev pub fewest : ℕ → Table → Table → ℕ
 fewest c old new = cond (eqb (changedNumbers old new) 0) 0 (1 + changedNumbers old new + changedOthers c old new)
 
@@ -136,6 +137,10 @@ abbrev pub changedMask : Table → Table → ℕ
 changedMask [] new = 0
 changedMask (o ∷ old) [] = 0
 changedMask (o ∷ old) (v ∷ new) = oneUnless (sameSlot o v) + 2 * changedMask old new
+
+-- The changed slots other than slot c as one number.
+abbrev pub othersMask : ℕ → Table → Table → ℕ
+othersMask c old new = changedMask (slotDone c old new) new
 
 -- Bit k of a number.
 abbrev pub bitOf : ℕ → ℕ → ℕ

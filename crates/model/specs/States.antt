@@ -5,7 +5,7 @@ use Prim.Native.Nat.{ℕ}
 use lib.Dec.{ltb}
 use lib.IntN.{pos}
 use lib.ListN.{replicate}
-use Rattle.model.specs.Panel.{Layout, Setup, Panel, setupGood, panelOf}
+use Rattle.model.specs.Panel.{Layout, Setup, Panel, setupGood, panelOf, idCount}
 use Rattle.model.specs.Table.{Table, idsDiffer, unusedSlot, eqTable, goodTable}
 use Rattle.model.specs.Reader.{Mode, following, dropped, stale, Reader, settledAt}
 
@@ -24,7 +24,7 @@ pub record WriterState : Type 0 where
 
 -- A good table whose live ids all differ, a current slot below n and a counter 0 to 65,535.
 abbrev pub goodWriter : Panel → Writer → Bool
-goodWriter p w = goodTable p (w .table) && idsDiffer (w .table) && ltb (w .current) (p .slots) && ltb (w .counter) 65_536
+goodWriter p w = goodTable p (w .table) && idsDiffer (w .table) && ltb (w .current) (p .slots) && ltb (w .counter) idCount
 
 -- A well-formed writer's state, its setup's ranges included.
 unfoldable pub writerGood : Layout → WriterState → Bool

@@ -13,6 +13,7 @@ use lib.Dec.{T, not-T}
 use lib.IntN.{ℤ}
 use lib.ListN.{take, drop, getD, length, replicate}
 use borrow.Author.Tests.{not-true}
+use Rattle.model.specs.Panel.{records}
 use Rattle.model.specs.Numbers.{eqZ, minusOne}
 use Rattle.model.specs.Table.{live, unheld, liveDiffer, ids}
 use Rattle.model.proofs.Bools.{is-true, is-false, and-left, and-right, eqZ→eq, eqZ-refl}
@@ -132,7 +133,7 @@ pub front-holds : (t : List S.Slot) (n : ℕ) → sameFrom n t unusedAll → (v 
 front-holds t n s v e =
     let l = ids (tableOf (take n t)) in
     let r = ids (tableOf (drop n t)) in
-    let none = ap (λ x. unheld v (ids x)) s ∙ spare-unheld v n 16 e in
+    let none = ap (λ x. unheld v (ids x)) s ∙ spare-unheld v n records e in
     ap (unheld v) (cut-ids t n) ∙ unheld-both v l r ∙ ap (λ b. unheld v l && b) none ∙ and-true (unheld v l)
 
 -- Their live ones differ, and fall on bits of m.
@@ -167,4 +168,4 @@ module _ (t : List S.Slot) (k : ℕ) (h : k < length t) where
     clash-turn u = rw (cut-ids t k, rest-is t k h) (clash front id (ids (tableOf (drop (k + 1) t))) n u)
 
 pub walk-over : (t : List S.Slot) (n m : ℕ) → sameFrom n t unusedAll → Walked t n m → liveDiffer (ids (tableOf t)) ≡ true
-walk-over t n m e w = rw (cut-ids t n, e) (idle (ids (tableOf (take n t))) n 16 (w .1))
+walk-over t n m e w = rw (cut-ids t n, e) (idle (ids (tableOf (take n t))) n records (w .1))

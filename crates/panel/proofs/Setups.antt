@@ -4,7 +4,7 @@ use mathlib.Core.Bool.{Bool, true, false, _&&_}
 use Prim.Native.Nat.{ℕ, _≤_, _<_}
 use lib.Dec.{T, leb, leb→le}
 use Rattle.model.specs.Numbers.{between}
-use Rattle.model.specs.Panel.{base, setupGood}
+use Rattle.model.specs.Panel.{base, setupGood, records}
 use Rattle.model.proofs.Bools.{both-left, both-right}
 use Rattle.panel.specs.declared.Setup.{Setup}
 use Rattle.panel.specs.Seen.{setupOf}
@@ -16,7 +16,7 @@ holds b e = subst T (sym e) tt
 -- The bounds of a good setup's numbers.
 pub record Small (u : Setup) : Type 0 where
   pub some : 0 < u .n
-  pub n : u .n ≤ 16
+  pub n : u .n ≤ records
   pub x : u .x ≤ 32_767
   pub y : u .y ≤ 32_767
   pub pressure : u .pressure ≤ 255
@@ -26,7 +26,7 @@ at-most v top t = leb→le v top (both-right (leb 1 v) (leb v top) t)
 
 pub small : (u : Setup) → setupGood base (setupOf u) ≡ true → Small u
 small u e =
-    let a = between 1 16 (u .n) in
+    let a = between 1 records (u .n) in
     let b = between 1 32_767 (u .x) in
     let c = between 1 32_767 (u .y) in
     let d = between 1 255 (u .pressure) in
@@ -35,8 +35,8 @@ small u e =
     let i = both-right b (c && (d && true)) h in
     let n = both-left a (b && (c && (d && true))) g in
     record {
-      some = leb→le 1 (u .n) (both-left (leb 1 (u .n)) (leb (u .n) 16) n);
-      n = at-most (u .n) 16 n;
+      some = leb→le 1 (u .n) (both-left (leb 1 (u .n)) (leb (u .n) records) n);
+      n = at-most (u .n) records n;
       x = at-most (u .x) 32_767 (both-left b (c && (d && true)) h);
       y = at-most (u .y) 32_767 (both-left c (d && true) i);
       pressure = at-most (u .pressure) 255 (both-left d true (both-right c (d && true) i));
@@ -45,14 +45,14 @@ small u e =
 -- ---- a setup's test, by the first number that fails
 
 module _ (u : Setup) where
-  pub setup-1 : between 1 16 (u .n) ≡ false → setupGood base (setupOf u) ≡ false
+  pub setup-1 : between 1 records (u .n) ≡ false → setupGood base (setupOf u) ≡ false
   setup-1 e = rw e
 
-  pub setup-2 : between 1 16 (u .n) ≡ true → between 1 32_767 (u .x) ≡ false → setupGood base (setupOf u) ≡ false
+  pub setup-2 : between 1 records (u .n) ≡ true → between 1 32_767 (u .x) ≡ false → setupGood base (setupOf u) ≡ false
   setup-2 e f = rw (e, f)
 
-  pub setup-3 : between 1 16 (u .n) ≡ true → between 1 32_767 (u .x) ≡ true → between 1 32_767 (u .y) ≡ false → setupGood base (setupOf u) ≡ false
+  pub setup-3 : between 1 records (u .n) ≡ true → between 1 32_767 (u .x) ≡ true → between 1 32_767 (u .y) ≡ false → setupGood base (setupOf u) ≡ false
   setup-3 e f g = rw (e, f, g)
 
-  pub setup-4 : between 1 16 (u .n) ≡ true → between 1 32_767 (u .x) ≡ true → between 1 32_767 (u .y) ≡ true → setupGood base (setupOf u) ≡ between 1 255 (u .pressure)
+  pub setup-4 : between 1 records (u .n) ≡ true → between 1 32_767 (u .x) ≡ true → between 1 32_767 (u .y) ≡ true → setupGood base (setupOf u) ≡ between 1 255 (u .pressure)
   setup-4 e f g = rw (e, f, g) (and-true _)

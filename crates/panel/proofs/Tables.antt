@@ -10,7 +10,7 @@ use lib.IntN.{ℤ}
 use lib.ListN.{take, drop, getD, length, replicate, drop-of-length-le, length-map}
 use lib.Seq.{drop-cons, slice-cons, slice-empty}
 use Rattle.model.specs.Numbers.{eqZ}
-use Rattle.model.specs.Panel.{Field}
+use Rattle.model.specs.Panel.{Field, records}
 use Rattle.model.specs.Table.{Table, unheld, ids, eqSlot, eqTable, goodSlot, goodRecords, goodTable}
 use Rattle.model.proofs.Bools.{is-true, and-right}
 use Rattle.model.proofs.Tables.{eqTable→eq, eqTable-self, good-length, good-records}
@@ -94,7 +94,7 @@ module _ (u : Setup) where
   never-used (suc n) [] = refl
   never-used (suc n) (s ∷ t) = never-used n t
 
-  module _ (t : List S.Slot) (e : length t ≡ 16) where
+  module _ (t : List S.Slot) (e : length t ≡ records) where
     abbrev slots : Bool
     slots = goodRecords (fieldsOf u) (u .n) (tableOf (take (u .n) t))
 
@@ -112,14 +112,14 @@ pub unmapped : (A B : Type 0) (f : A → B) (l : List A) (n : ℕ) → length (m
 unmapped A B f l n e = sym (length-map l f) ∙ e
 
 -- It has sixteen records, so only they have to be good.
-pub table-good : (u : Setup) (t : List S.Slot) → length t ≡ 16 → goodTable (panelSeen u) (tableOf t) ≡ goodRecords (fieldsOf u) (u .n) (tableOf t)
-table-good u t e = rw (eq-eqb (length (tableOf t)) 16 (length-map t slotOf ∙ e))
+pub table-good : (u : Setup) (t : List S.Slot) → length t ≡ records → goodTable (panelSeen u) (tableOf t) ≡ goodRecords (fieldsOf u) (u .n) (tableOf t)
+table-good u t e = rw (eq-eqb (length (tableOf t)) records (length-map t slotOf ∙ e))
 
 -- A well-formed one was never used past the panel's slots.
 pub table-rest : (u : Setup) (t : List S.Slot) → T (goodTable (panelSeen u) (tableOf t)) → sameFrom (u .n) t unusedAll
 table-rest u t g =
     let p = panelSeen u in
-    good-rest u t (unmapped _ _ slotOf t 16 (good-length p (tableOf t) g)) (is-true _ (good-records p (tableOf t) g))
+    good-rest u t (unmapped _ _ slotOf t records (good-length p (tableOf t) g)) (is-true _ (good-records p (tableOf t) g))
 
 -- The slot that the code reads.
 pub slot-at : (t : List S.Slot) (k : ℕ) → k < length t → getD (tableOf t) k [] ≡ slotOf (getD t k blank)

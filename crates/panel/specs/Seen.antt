@@ -4,6 +4,7 @@ use mathlib.Core.List.{List, [], _∷_, map}
 use Prim.Native.Nat.{ℕ}
 use lib.IntN.{pos}
 use lib.ListN.{getD, drop, replicate}
+use Rattle.model.specs.Panel.{records}
 use Rattle.model.specs.Numbers.{minusOne}
 use Rattle.model.specs.Panel as P
 use Rattle.model.specs.Table as T
@@ -40,7 +41,7 @@ unused = record { id = record { 0 = minusOne }; x = 0; y = 0; pressure = 0 }
 
 -- Sixteen of them.
 abbrev pub unusedAll : List Slot
-unusedAll = replicate 16 unused
+unusedAll = replicate records unused
 
 -- Two tables hold the same from record n up. With an unused table on one side: the other was never used there.
 abbrev pub sameFrom : ℕ → List Slot → List Slot → Type 0
@@ -48,7 +49,7 @@ sameFrom n a b = tableOf (drop n a) ≡ tableOf (drop n b)
 
 -- Sixteen records of zeros.
 abbrev pub zeros : List Slot
-zeros = replicate 16 blank
+zeros = replicate records blank
 
 -- ---- setups
 

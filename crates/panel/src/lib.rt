@@ -3,13 +3,16 @@ ghost use mathlib.Core.Path.{_≡_};
 ghost use mathlib.Core.List.{_∷_, []};
 ghost use Prim.Native.Nat.{_<_, _≤_};
 ghost use lib.ListN.{take, drop};
-ghost use Rattle.model.specs.Panel.{base, setupGood};
+ghost use Rattle.model.specs.Panel.{base, setupGood, records};
 ghost use Rattle.model.specs.Table.{ids, unheld, goodSlot, eqSlot, eqTable, idsDiffer as idsApart, goodRecords};
 ghost use Rattle.panel.specs.Seen.{slotOf, tableOf, setupOf, fieldsOf, axesOf, unused, unusedAll, sameFrom, zeros};
 use common::TrackingId;
 
 // How many slot records a table holds.
 pub const RECORDS: usize = 16;
+
+// How many numbers a slot has.
+pub const PER_SLOT: usize = 4;
 
 // The most that a setup may give as the largest x and y, and as the largest pressure.
 pub const MOST_POSITION: usize = 32767;
@@ -133,7 +136,7 @@ fn slot_unused(s: Slot) -> bool
 
 // Whether the panel's slots are good, whatever stands past them.
 fn slots_ok(setup: Setup, t: [Slot; RECORDS]) -> bool
-    requires { ⌜ setup .n ≤ 16 ⌝ }
+    requires { ⌜ setup .n ≤ records ⌝ }
     ensures { λ r. ⌜ r ≡ goodRecords (fieldsOf setup) (setup .n) (tableOf (take (setup .n) t)) ⌝ }
 {
     let n = setup.n;
@@ -163,7 +166,7 @@ fn rest_unused(n: usize, t: [Slot; RECORDS]) -> bool
 
 // Whether the first n records are good slots, and the others unused.
 pub fn table_ok(setup: Setup, t: [Slot; RECORDS]) -> bool
-    requires { ⌜ setup .n ≤ 16 ⌝ }
+    requires { ⌜ setup .n ≤ records ⌝ }
     ensures { λ r. ⌜ r ≡ goodRecords (fieldsOf setup) (setup .n) (tableOf t) ⌝ }
 {
     if !slots_ok(setup, t) {
@@ -174,7 +177,7 @@ pub fn table_ok(setup: Setup, t: [Slot; RECORDS]) -> bool
 
 // Whether v is none of the first k ids.
 fn unheld_before(t: [Slot; RECORDS], k: usize, v: i32) -> bool
-    requires { ⌜ k ≤ 16 ⌝ }
+    requires { ⌜ k ≤ records ⌝ }
     ensures { λ r. ⌜ r ≡ unheld v (ids (tableOf (take k t))) ⌝ }
 {
     let mut j: usize = 0;
@@ -191,7 +194,7 @@ fn unheld_before(t: [Slot; RECORDS], k: usize, v: i32) -> bool
 
 // Whether all live ids differ, of which the first n slots alone may have one. An id falls on one of 64 bits: only one that falls on a bit again is compared with those before it.
 pub fn ids_differ(n: usize, t: [Slot; RECORDS]) -> bool
-    requires { ⌜ (n ≤ 16) × sameFrom n t unusedAll ⌝ }
+    requires { ⌜ (n ≤ records) × sameFrom n t unusedAll ⌝ }
     ensures { λ r. ⌜ r ≡ idsApart (tableOf t) ⌝ }
 {
     let mut met: u64 = 0;
@@ -218,7 +221,7 @@ pub fn ids_differ(n: usize, t: [Slot; RECORDS]) -> bool
 
 // Whether two tables are the same that hold the same from record n up.
 pub fn tables_same(n: usize, a: [Slot; RECORDS], b: [Slot; RECORDS]) -> bool
-    requires { ⌜ (n ≤ 16) × sameFrom n a b ⌝ }
+    requires { ⌜ (n ≤ records) × sameFrom n a b ⌝ }
     ensures { λ r. ⌜ r ≡ eqTable (tableOf a) (tableOf b) ⌝ }
 {
     let mut s: usize = 0;

@@ -9,12 +9,13 @@ use lib.IntN.{ℤ, pos, negsuc}
 use lib.ListN.{length, take, drop, getD, set}
 use lib.Seq.{take-suc-set, drop-set-lt}
 use lib.Signed.{leZ}
+use Rattle.model.specs.Panel.{perSlot}
 use Rattle.model.specs.Numbers.{eqZ, betweenZ}
 use Rattle.model.specs.Table.{Table, idOf, numbersOf, ids, goodSlot, live}
 use Rattle.model.specs.Records.{bitsOf}
-use Rattle.model.specs.Frame.{numbersFrom, rowsFrom, kindOf, goodRow, goodRows, Fate, none, goesOn, begins, fate, freeId, slotAfter, takenAfter, counterAfter, tableFrom, counterFrom, newTable}
+use Rattle.model.specs.Frame.{numbersFrom, rowsFrom, kindOf, goodRow, goodRows, Fate, none, goesOn, begins, fate, freeId, slotAfter, takenAfter, counterAfter, Planned, after, planned, newTable}
 use Rattle.model.proofs.Bools.{and-left, and-right}
-use Rattle.model.proofs.Tries.{Same, table-same, counter-same}
+use Rattle.model.proofs.Tries.{Same, planned-same}
 use Rattle.panel.specs.declared.Slot as S
 use Rattle.panel.specs.declared.Setup.{Setup}
 use Rattle.panel.specs.Seen.{slotOf, tableOf, axesOf, blank, sameFrom}
@@ -55,12 +56,12 @@ row-plain u k x y p g =
     ]) g
 
 -- Rows that are good for a setup are plain.
-pub good-plain : (u : Setup) (n : ℕ) (f : List ℤ) (at : ℕ) → goodRows (axesOf u) (rowsFrom 4 n f at) ≡ true → plainRows (rowsFrom 4 n f at) ≡ true
+pub good-plain : (u : Setup) (n : ℕ) (f : List ℤ) (at : ℕ) → goodRows (axesOf u) (rowsFrom perSlot n f at) ≡ true → plainRows (rowsFrom perSlot n f at) ≡ true
 unfolding rowsFrom
 good-plain u zero f at g = refl
 good-plain u (suc n) f at g =
-    let e = row-plain u (getD f at (pos 0)) (getD f (at + 1) (pos 0)) (getD f (at + 1 + 1) (pos 0)) (getD f (at + 1 + 1 + 1) (pos 0)) (and-left (goodRow (axesOf u) (numbersFrom 4 f at)) _ g) in
-    let r = good-plain u n f (at + 4) (and-right (goodRow (axesOf u) (numbersFrom 4 f at)) _ g) in
+    let e = row-plain u (getD f at (pos 0)) (getD f (at + 1) (pos 0)) (getD f (at + 1 + 1) (pos 0)) (getD f (at + 1 + 1 + 1) (pos 0)) (and-left (goodRow (axesOf u) (numbersFrom perSlot f at)) _ g) in
+    let r = good-plain u n f (at + 4) (and-right (goodRow (axesOf u) (numbersFrom perSlot f at)) _ g) in
     ap₂ (λ a b. a && b) e r
 
 -- ---- a slot by its fate
@@ -112,6 +113,9 @@ stayed-counter none j k e = refl
 stayed-counter goesOn j k e = refl
 stayed-counter begins j k e = let z : _≡_ {A = ℕ} 0 1 = cc in absurd (omega arith)
 
+after-after : (a b : Table) (p : Planned) → after a (after b p) ≡ after (a ++ b) p
+after-after a b p = ap (λ t. record { table = t; counter = p .counter }) (sym (append-assoc a b (p .table)))
+
 -- ---- slot s of the table t is made w, by the row g; `taken` and k are the ids taken and the counter before it, and more and n after it
 
 module _ (taken : List ℤ) (k : ℕ) (t : List S.Slot) (s : ℕ) (h : s < length t) (g : List ℤ) (fr : List (List ℤ)) (w : S.Slot) (more : List ℤ) (n : ℕ) where
@@ -129,28 +133,21 @@ module _ (taken : List ℤ) (k : ℕ) (t : List S.Slot) (s : ℕ) (h : s < lengt
   kept-is : drop (s + 1) (set t s w) ≡ drop (s + 1) t
   kept-is = drop-set-lt (s + 1) t s w (omega arith)
 
-  pub table-turn : slotOf w ≡ slotAfter becomes given (slotOf (getD t s blank)) (numbersOf g) → Same (takenAfter becomes given taken) more → counterAfter becomes given k ≡ n
-      → tableOf (take s t) ++ tableFrom taken k (g ∷ fr) (tableOf (drop s t)) ≡ tableOf (take (s + 1) (set t s w)) ++ tableFrom more n fr (tableOf (drop (s + 1) (set t s w)))
-  table-turn e q r =
+  -- What is planned from slot s on is that slot, and what is planned after it.
+  pub plan-turn : slotOf w ≡ slotAfter becomes given (slotOf (getD t s blank)) (numbersOf g) → Same (takenAfter becomes given taken) more → counterAfter becomes given k ≡ n
+      → after (tableOf (take s t)) (planned taken k (g ∷ fr) (tableOf (drop s t))) ≡ after (tableOf (take (s + 1) (set t s w))) (planned more n fr (tableOf (drop (s + 1) (set t s w))))
+  plan-turn e q r =
+      let front = tableOf (take s t) in
       let d = tableOf (drop (s + 1) t) in
-      ap (λ l. tableOf (take s t) ++ tableFrom taken k (g ∷ fr) l) (rest-is t s h)
-      ∙ ap₂ {C = Table} (λ a b. tableOf (take s t) ++ a ∷ b) (sym e)
-      (table-same (takenAfter becomes given taken) more (counterAfter becomes given k) fr d q ∙ ap (λ m. tableFrom more m fr d) r)
-      ∙ sym (append-assoc (tableOf (take s t)) (slotOf w ∷ []) (tableFrom more n fr d))
-      ∙ ap₂ {C = Table} (λ a b. a ++ tableFrom more n fr (tableOf b)) (sym made-is) (sym kept-is)
-
-  pub counter-turn : Same (takenAfter becomes given taken) more → counterAfter becomes given k ≡ n
-      → counterFrom taken k (g ∷ fr) (tableOf (drop s t)) ≡ counterFrom more n fr (tableOf (drop (s + 1) (set t s w)))
-  counter-turn q r =
-      let d = tableOf (drop (s + 1) t) in
-      ap (λ l. counterFrom taken k (g ∷ fr) l) (rest-is t s h)
-      ∙ counter-same (takenAfter becomes given taken) more (counterAfter becomes given k) fr d q
-      ∙ ap (λ m. counterFrom more m fr d) r
-      ∙ ap (λ l. counterFrom more n fr (tableOf l)) (sym kept-is)
+      ap (λ l. after front (planned taken k (g ∷ fr) l)) (rest-is t s h)
+      ∙ ap₂ (λ a p. after front (after (a ∷ []) p)) (sym e)
+      (planned-same (takenAfter becomes given taken) more (counterAfter becomes given k) fr d q ∙ ap (λ m. planned more m fr d) r)
+      ∙ after-after front (slotOf w ∷ []) (planned more n fr d)
+      ∙ ap₂ (λ a b. after a (planned more n fr (tableOf b))) (sym made-is) (sym kept-is)
 
 -- ---- the records without a row
 
-unrowed : (taken : List ℤ) (k : ℕ) (fr : List (List ℤ)) (t : Table) → drop (length fr) (tableFrom taken k fr t) ≡ drop (length fr) t
+unrowed : (taken : List ℤ) (k : ℕ) (fr : List (List ℤ)) (t : Table) → drop (length fr) (planned taken k fr t .table) ≡ drop (length fr) t
 unrowed taken k [] t = refl
 unrowed taken k (g ∷ fr) [] = refl
 unrowed taken k (g ∷ fr) (s ∷ t) =

@@ -1,2 +1,2 @@
--- What becomes of one slot.
+-- What becomes of one slot, and of all.
 pub mod Row

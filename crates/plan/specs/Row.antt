@@ -1,4 +1,4 @@
--- What becomes of one slot, as the code's records. Cited by the contracts here. Assumes nothing.
+-- What becomes of one slot, as the code's records, and of all. Cited by the contracts here. Assumes nothing.
 use mathlib.Core.Bool.{Bool, true, false, _&&_, _||_}
 use mathlib.Core.List.{List, [], _∷_}
 use lib.IntN.{ℤ, pos}
@@ -7,7 +7,10 @@ use Rattle.model.specs.Numbers.{eqZ, minusOne}
 use Rattle.model.specs.Table.{numbersOf}
 use Rattle.model.specs.Records.{bitsOf}
 use Rattle.model.specs.Frame.{kindOf, Fate, none, goesOn, begins}
+use Rattle.model.specs.Frame as F
 use Rattle.panel.specs.declared.Slot.{Slot}
+use Rattle.panel.specs.Seen.{tableOf}
+use Rattle.plan.specs.declared.Planned.{Planned}
 
 -- A contact begins.
 abbrev pub begun : Fate → Bool
@@ -41,3 +44,7 @@ plainRow g = eqZ (kindOf g) (pos 0) || unsigned (numbersOf g)
 abbrev pub plainRows : List (List ℤ) → Bool
 plainRows [] = true
 plainRows (g ∷ fr) = plainRow g && plainRows fr
+
+-- A planned table and counter, as the model's.
+abbrev pub plannedOf : Planned → F.Planned
+plannedOf r = record { table = tableOf (r .table); counter = r .counter }

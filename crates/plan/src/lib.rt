@@ -4,12 +4,14 @@ ghost use mathlib.Core.Bool.{true};
 ghost use Prim.Native.Nat.{_*_, _<_, _≤_};
 ghost use lib.IntN.{pos};
 ghost use lib.ListN.{length, take};
+ghost use Rattle.model.specs.Panel.{idCount, perSlot, records};
 ghost use Rattle.model.specs.Numbers.{eqZ};
 ghost use Rattle.model.specs.Table.{ids, unheld};
-ghost use Rattle.model.specs.Frame.{fate, freeId, next, rowsFrom, newTable, newCounter};
+ghost use Rattle.model.specs.Frame.{fate, freeId, next, rowsFrom, framed};
 ghost use Rattle.panel.specs.Seen.{tableOf, unusedAll, sameFrom};
-ghost use Rattle.plan.specs.Row.{begun, held, stayed, plainRows};
+ghost use Rattle.plan.specs.Row.{begun, held, stayed, plainRows, plannedOf};
 use common::TrackingId;
+use panel::PER_SLOT;
 use panel::RECORDS;
 use panel::Slot;
 
@@ -31,7 +33,7 @@ fn absent(taken: &[i32], v: TrackingId) -> bool
 }
 
 fn id_of(k: u32) -> TrackingId
-    requires { ⌜ k < 65536 ⌝ }
+    requires { ⌜ k < idCount ⌝ }
     ensures { λ r. ⌜ r ≡ record { 0 = pos k } ⌝ }
 {
     let v = k as i32;
@@ -39,16 +41,16 @@ fn id_of(k: u32) -> TrackingId
 }
 
 fn after(k: u32) -> u32
-    requires { ⌜ k < 65536 ⌝ }
+    requires { ⌜ k < idCount ⌝ }
     ensures { λ r. ⌜ r ≡ next k ⌝ }
 {
-    (k + 1) % 65536
+    (k + 1) % TrackingId::COUNT
 }
 
 // The first number from `from` on, wrapping, that is not taken: as many tries as ids can be taken are enough.
 fn choose(taken: &[i32], from: u32) -> u32
-    requires { ⌜ (length (now taken) ≤ 32) × (from < 65536) ⌝ }
-    ensures { λ r. ⌜ (r < 65536) × (r ≡ freeId (now (taken .entry)) from) ⌝ }
+    requires { ⌜ (length (now taken) ≤ 2 * records) × (from < idCount) ⌝ }
+    ensures { λ r. ⌜ (r < idCount) × (r ≡ freeId (now (taken .entry)) from) ⌝ }
 {
     let mut k = from;
     let mut tries = TAKEN;
@@ -64,7 +66,7 @@ fn choose(taken: &[i32], from: u32) -> u32
 
 // The ids of a table's first n slots, with room for those that a frame gives.
 fn ids_of(n: usize, t: [Slot; RECORDS]) -> [i32; TAKEN]
-    requires { ⌜ n ≤ 16 ⌝ }
+    requires { ⌜ n ≤ records ⌝ }
     ensures { λ r. ⌜ take n r ≡ ids (tableOf (take n t)) ⌝ }
 {
     let mut l = [0; TAKEN];
@@ -130,8 +132,8 @@ pub struct Planned {
 
 // The table and the counter after n good rows, of a table that was never used past n slots. An ending or replaced contact's id stays taken to the end of the frame.
 pub fn plan_frame(n: usize, old: [Slot; RECORDS], counter: u32, frame: &[i32]) -> Planned
-    requires { ⌜ (n ≤ 16) × (counter < 65536) × (length (now frame) ≡ 4 * n) × (plainRows (rowsFrom 4 n (now frame) 0) ≡ true) × sameFrom n old unusedAll ⌝ }
-    ensures { λ r. ⌜ (tableOf (r .table) ≡ newTable counter (rowsFrom 4 n (now (frame .entry)) 0) (tableOf old)) × (r .counter ≡ newCounter counter (rowsFrom 4 n (now (frame .entry)) 0) (tableOf old)) ⌝ }
+    requires { ⌜ (n ≤ records) × (counter < idCount) × (length (now frame) ≡ perSlot * n) × (plainRows (rowsFrom perSlot n (now frame) 0) ≡ true) × sameFrom n old unusedAll ⌝ }
+    ensures { λ r. ⌜ plannedOf r ≡ framed counter (rowsFrom perSlot n (now (frame .entry)) 0) (tableOf old) ⌝ }
 {
     let mut taken = ids_of(n, old);
     let mut m = n;
@@ -139,7 +141,7 @@ pub fn plan_frame(n: usize, old: [Slot; RECORDS], counter: u32, frame: &[i32]) -
     let mut k = counter;
     let mut s: usize = 0;
     while s < n {
-        let i = 4 * s;
+        let i = PER_SLOT * s;
         let kind = frame[i];
         let was = t[s];
         let id = was.id;

@@ -7,7 +7,7 @@ use native.Mathlib.Omega.{arith}
 use lib.Dec.{T, ltb, eqb→eq}
 use lib.IntN.{ℤ}
 use lib.ListN.{length}
-use Rattle.model.specs.Panel.{Panel, base, setupGood}
+use Rattle.model.specs.Panel.{Panel, base, setupGood, perSlot}
 use Rattle.model.specs.Table.{Table, idsDiffer, goodTable}
 use Rattle.model.specs.Frame.{sized}
 use Rattle.model.specs.Records.{eventsFrom, eventsOf, recordBytes}
@@ -94,10 +94,10 @@ one-record e old l a b c =
     let n : length (over bs old) / 8 ≡ 1 = omega (arith, over-same bs old (omega (arith, record-length (e .kind) (e .code) (e .value))), l) in
     ap (λ k. eventsFrom k (over bs old) 0) n ∙ ap (λ x. x ∷ []) (put-then-read (e .kind) (e .code) (e .value) old a b c)
 
-pub image-length : (u : Setup) (m : List ℤ) (c : ℕ) → imageGood (panelSeen u) m c ≡ true → length m ≡ 4 * u .n
+pub image-length : (u : Setup) (m : List ℤ) (c : ℕ) → imageGood (panelSeen u) m c ≡ true → length m ≡ perSlot * u .n
 image-length u m c e =
     let p = panelSeen u in
     let a = sized p m in
     let b = goodTable p (imageTable p m) in
     let d = idsDiffer (imageTable p m) in
-    eqb→eq (length m) (4 * u .n) (both-left a b (both-left (a && b) d (both-left (a && b && d) (ltb c (u .n)) (holds _ e))))
+    eqb→eq (length m) (perSlot * u .n) (both-left a b (both-left (a && b) d (both-left (a && b && d) (ltb c (u .n)) (holds _ e))))

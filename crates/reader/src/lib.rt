@@ -4,7 +4,7 @@ ghost use mathlib.Core.Bool.{true};
 ghost use mathlib.Core.List.{[]};
 ghost use Prim.Native.Nat.{_<_, _≤_, _*_};
 ghost use lib.ListN.{length, getD};
-ghost use Rattle.model.specs.Panel.{base};
+ghost use Rattle.model.specs.Panel.{base, perSlot, records};
 ghost use Rattle.model.specs.Records.{eventsOf};
 ghost use Rattle.model.specs.Reader.{following, nothing, run as runOver};
 ghost use Rattle.model.specs.States.{settled, readerGood, goodReader};
@@ -108,7 +108,7 @@ fn settled_ok(
     shown: [Slot; panel::RECORDS],
     pending: [Slot; panel::RECORDS],
 ) -> bool
-    requires { ⌜ (n ≤ 16) × sameFrom n shown pending ⌝ }
+    requires { ⌜ (n ≤ records) × sameFrom n shown pending ⌝ }
     ensures { λ r. ⌜ r ≡ settled (modeOf m) (tableOf shown) (tableOf pending) ⌝ }
 {
     match m {
@@ -119,7 +119,7 @@ fn settled_ok(
 }
 
 fn tables_ok(s: ReaderState) -> bool
-    requires { ⌜ s .setup .n ≤ 16 ⌝ }
+    requires { ⌜ s .setup .n ≤ records ⌝ }
     ensures { λ r. ⌜ r ≡ goodReader (panelSeen (s .setup)) (seen s .reader) ⌝ }
 {
     let setup = s.setup;
@@ -248,7 +248,7 @@ fn is_stale(m: Mode) -> bool
 }
 
 fn load_accepted(setup: Setup, image: &[i32], current: SlotNumber) -> LoadAnswer
-    requires { ⌜ (setup .n ≤ 16) × (length (now image) ≡ 4 * setup .n) ⌝ }
+    requires { ⌜ (setup .n ≤ records) × (length (now image) ≡ perSlot * setup .n) ⌝ }
     ensures { λ r. ⌜ r ≡ loadTaken setup (now (image .entry)) (current .0) ⌝ }
 {
     let t = image::image_table(setup, image);
@@ -304,7 +304,7 @@ fn shown_answer(s: Slot) -> SlotAnswer
 
 // NO EVENT IS NOT NO FINGER: a reader that lost track answers Unknown and never an old table.
 fn answer_in(m: Mode, shown: [Slot; panel::RECORDS], k: usize) -> SlotAnswer
-    requires { ⌜ k < 16 ⌝ }
+    requires { ⌜ k < records ⌝ }
     ensures { λ r. ⌜ r ≡ askedFrom (askedIn (modeOf m) (getD (tableOf shown) k [])) ⌝ }
 {
     match m {

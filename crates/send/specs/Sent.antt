@@ -4,7 +4,7 @@ use mathlib.Core.List.{List, [], _∷_, _++_, map}
 use Prim.Native.Nat.{ℕ}
 use lib.Dec.{eqb}
 use lib.ListN.{getD}
-use Rattle.model.specs.Panel.{fieldCodes}
+use Rattle.model.specs.Panel.{fieldCodes, records}
 use Rattle.model.specs.Records.{recordBytes, bytesOf}
 use Rattle.model.specs.Sending as M
 use Rattle.model.specs.Sending.{sendSlot, changes, eventOf}
@@ -35,4 +35,4 @@ openedAt old new j = sendSlot j ∷ changes 0 (slotOf (getD old j blank)) (slotO
 
 -- The current slot's changes, and then those of the slots that a number names.
 abbrev pub sentBy : List Slot → List Slot → ℕ → ℕ → List M.Sent
-sentBy old new m c = changes 0 (slotOf (getD old c blank)) (slotOf (getD new c blank)) ++ ofMask 16 m (openedAt old new)
+sentBy old new m c = changes 0 (slotOf (getD old c blank)) (slotOf (getD new c blank)) ++ ofMask records m (openedAt old new)

@@ -3,6 +3,7 @@ ghost use mathlib.Core.Path.{_≡_};
 ghost use mathlib.Core.List.{[], _∷_, _++_};
 ghost use Prim.Native.Nat.{_+_, _<_, _≤_};
 ghost use lib.ListN.{length};
+ghost use Rattle.model.specs.Panel.{records};
 ghost use Rattle.model.specs.Records.{lay};
 ghost use Rattle.model.specs.Sending.{sendSlot, sendReport, changes, lastOpened};
 ghost use Rattle.panel.specs.Seen.{slotOf};
@@ -66,7 +67,7 @@ fn put_changes(b: &mut [u8], old: Slot, new: Slot) -> usize
 
 // The same, opened by the slot's number.
 fn put_opened(b: &mut [u8], s: SlotNumber, old: Slot, new: Slot) -> usize
-    requires { ⌜ (s .0 < 16) × (length (bytesSent (sendSlot (s .0) ∷ changes 0 (slotOf old) (slotOf new))) ≤ length (now b)) ⌝ }
+    requires { ⌜ (s .0 < records) × (length (bytesSent (sendSlot (s .0) ∷ changes 0 (slotOf old) (slotOf new))) ≤ length (now b)) ⌝ }
     ensures { λ r. ⌜ (r ≡ length (bytesSent (sendSlot (s .0) ∷ changes 0 (slotOf old) (slotOf new)))) × (now (b .exit) ≡ over (bytesSent (sendSlot (s .0) ∷ changes 0 (slotOf old) (slotOf new))) (now (b .entry))) ⌝ }
 {
     let number = s.0 as u32;
@@ -85,7 +86,7 @@ pub fn send_frame(
     others: u16,
     current: SlotNumber,
 ) -> SlotNumber
-    requires { ⌜ (current .0 < 16) × (at + length (bytesSent (sentBy old new others (current .0) ++ sendReport ∷ [])) ≤ length (now b)) ⌝ }
+    requires { ⌜ (current .0 < records) × (at + length (bytesSent (sentBy old new others (current .0) ++ sendReport ∷ [])) ≤ length (now b)) ⌝ }
     ensures { λ r. ⌜ (r .0 ≡ lastOpened (current .0) (sentBy old new others (current .0))) × (now (b .exit) ≡ lay at (bytesSent (sentBy old new others (current .0) ++ sendReport ∷ [])) (now (b .entry))) ⌝ }
 {
     let c = current.0;

@@ -1,18 +1,19 @@
--- The changed-slot number and the changed numbers slot by slot, from the last on. Cited by the proof of `count_changes`. Assumes nothing.
+-- The changed-slot number and the changed numbers slot by slot, from the last on. Cited by the proof of `compare`. Assumes nothing.
 use mathlib.Core.Path.{_≡_, refl, sym, ap, ap₂, _∙_}
 use mathlib.Core.Bool.{true, false, _&&_}
 use mathlib.Core.List.{List, [], _∷_}
-use Prim.Native.Nat.{ℕ, _+_, _*_, _≤_, _<_}
+use Prim.Native.Nat.{ℕ, _+_, _*_, _≤_, _<_, _^_}
 use native.Mathlib.Omega.{arith}
 use lib.Dec.{eqb}
 use lib.ListN.{length, length-map, length-drop, drop, getD}
 use lib.Pow.{pow-mono}
 use borrow.Author.Tests.{ne-eqb}
+use Rattle.model.specs.Panel.{records}
 use Rattle.model.specs.Numbers.{eqZ}
 use Rattle.model.specs.Table as T
 use Rattle.model.specs.Sending.{oneUnless, changedIn, sameSlot, changedNumbers, changedMask}
-use Rattle.model.proofs.Bools.{is-true, eqZ-refl}
-use Rattle.model.proofs.Ones.{mask-below}
+use Rattle.model.proofs.Count.{changedNumbers-self}
+use Rattle.model.proofs.Ones.{mask-self, mask-below}
 use Rattle.panel.specs.declared.Slot.{Slot}
 use Rattle.panel.specs.Seen.{slotOf, tableOf, blank, sameFrom}
 use Rattle.panel.proofs.Tables.{rest-is}
@@ -51,27 +52,15 @@ module _ (old new : List Slot) where
 
 -- ---- where nothing changed
 
-in-self : (s : T.Slot) → changedIn s s ≡ 0
-in-self [] = refl
-in-self (v ∷ s) = rw (is-true (eqZ v v) (eqZ-refl v), in-self s)
-
-mask-self : (t : T.Table) → changedMask t t ≡ 0
-mask-self [] = refl
-mask-self (s ∷ t) = rw (← same-count s s, in-self s, mask-self t)
-
-numbers-self : (t : T.Table) → changedNumbers t t ≡ 0
-numbers-self [] = refl
-numbers-self (s ∷ t) = rw (in-self s, numbers-self t)
-
 module _ (old new : List Slot) (n : ℕ) (e : sameFrom n old new) where
   pub mask-rest : maskFrom old new n ≡ 0
   mask-rest = ap (changedMask (tableOf (drop n old))) (sym e) ∙ mask-self (tableOf (drop n old))
 
   pub numbers-rest : numbersFrom old new n ≡ 0
-  numbers-rest = ap (changedNumbers (tableOf (drop n old))) (sym e) ∙ numbers-self (tableOf (drop n old))
+  numbers-rest = ap (changedNumbers (tableOf (drop n old))) (sym e) ∙ changedNumbers-self (tableOf (drop n old))
 
 -- The bits from slot s on are 16 at most.
-pub mask-room : (old new : List Slot) (s : ℕ) → length old ≡ 16 → maskFrom old new s < 65536
+pub mask-room : (old new : List Slot) (s : ℕ) → length old ≡ records → maskFrom old new s < 2 ^ records
 mask-room old new s e =
-    let n : length (tableOf (drop s old)) ≤ 16 = omega (arith, length-map (drop s old) slotOf, length-drop s old) in
+    let n : length (tableOf (drop s old)) ≤ records = omega (arith, length-map (drop s old) slotOf, length-drop s old) in
     omega (arith, mask-below (tableOf (drop s old)) (tableOf (drop s new)), pow-mono n)

@@ -1,15 +1,11 @@
--- The tally's promises leave no choice: each law is of the contract itself. Assumes nothing.
-use mathlib.Core.Path.{ap₂, sym, _∙_}
+-- The tally's promise leaves no choice: the law is of the contract itself. Assumes nothing.
+use mathlib.Core.Path.{_≡_, sym, _∙_}
 use Rattle.model.specs.Unique.{OneAnswer}
 use Rattle.tally.proofs.count_changes.Reads as count-changes
-use Rattle.tally.proofs.without_current.Reads as without-current
-use Rattle.tally.proofs.ones.Reads as ones
 
 pub count-changes-one : OneAnswer count-changes.Learnt
-count-changes-one κs a r q s t e g = ap₂ (λ m n. record { mask = m; numbers = n }) (e .0 ∙ sym (g .0)) (e .1 ∙ sym (g .1))
-
-pub without-current-one : OneAnswer without-current.Learnt
-without-current-one κs a r q s t e g = e ∙ sym g
-
-pub ones-one : OneAnswer ones.Learnt
-ones-one κs a r q s t e g = e .1 ∙ sym (g .1)
+count-changes-one κs a r q s t e g =
+    let slots = e .slots ∙ sym (g .slots) in
+    let others = e .others ∙ sym (g .others) in
+    let events = e .events ∙ sym (g .events) in
+    λ i. record { slots = slots i; others = others i; events = events i }

@@ -1,1 +1,2 @@
--- The tally's own definitions: none, its contracts cite the model's.
+-- What the tally tells of two tables.
+pub mod Told

@@ -1,12 +1,15 @@
-// What a frame changes: the changed slots as one number, bit s for slot s, and how many numbers and slots. The writer stands on it.
+// What a frame changes: the changed slots as one number, bit s for slot s, and how many events tell it. The writer stands on it.
 ghost use mathlib.Core.Path.{_≡_};
-ghost use Prim.Native.Nat.{_-_, _^_, _<_, _≤_};
+ghost use mathlib.Core.Bool.{cond};
+ghost use Prim.Native.Nat.{_+_, _-_, _^_, _<_, _≤_, _*_};
 ghost use lib.Bits.{bitAnd};
 ghost use lib.Count.{ones as onesOf};
 ghost use lib.Dec.{eqb};
+ghost use Rattle.model.specs.Panel.{perSlot, records};
 ghost use Rattle.model.specs.Numbers.{eqZ};
 ghost use Rattle.model.specs.Sending.{oneUnless, changedIn, changedNumbers, changedMask};
 ghost use Rattle.panel.specs.Seen.{slotOf, tableOf, sameFrom};
+ghost use Rattle.tally.specs.Told.{Tells};
 use common::SlotNumber;
 use common::TrackingId;
 use panel::RECORDS;
@@ -46,15 +49,15 @@ fn some(d: u32) -> u16
     unlike(d, 0) as u16
 }
 
-pub struct Tally {
-    pub mask: u16,
-    pub numbers: u32,
+struct Compared {
+    mask: u16,
+    numbers: u32,
 }
 
 // The changed slots and numbers of a table whose records from n up stay. From the last slot down, so that a slot's bit is shifted to its place by those before it.
-pub fn count_changes(n: usize, old: [Slot; RECORDS], new: [Slot; RECORDS]) -> Tally
-    requires { ⌜ (n ≤ 16) × sameFrom n old new ⌝ }
-    ensures { λ r. ⌜ (r .mask ≡ changedMask (tableOf old) (tableOf new)) × (r .numbers ≡ changedNumbers (tableOf old) (tableOf new)) × (r .numbers ≤ 64) ⌝ }
+fn compare(n: usize, old: [Slot; RECORDS], new: [Slot; RECORDS]) -> Compared
+    requires { ⌜ (n ≤ records) × sameFrom n old new ⌝ }
+    ensures { λ r. ⌜ (r .mask ≡ changedMask (tableOf old) (tableOf new)) × (r .numbers ≡ changedNumbers (tableOf old) (tableOf new)) × (r .numbers ≤ perSlot * records) ⌝ }
 {
     let mut mask: u16 = 0;
     let mut numbers: u32 = 0;
@@ -65,20 +68,59 @@ pub fn count_changes(n: usize, old: [Slot; RECORDS], new: [Slot; RECORDS]) -> Ta
         mask = some(d) + 2 * mask;
         numbers = d + numbers;
     }
-    Tally { mask, numbers }
+    Compared { mask, numbers }
 }
 
 // The changed slots without the current one, which is sent first and not opened.
-pub fn without_current(mask: u16, current: SlotNumber) -> u16
-    requires { ⌜ current .0 < 16 ⌝ }
+fn without_current(mask: u16, current: SlotNumber) -> u16
+    requires { ⌜ current .0 < records ⌝ }
     ensures { λ r. ⌜ r ≡ mask - bitAnd mask (2 ^ current .0) ⌝ }
 {
     mask - (mask & (1u16 << current.0))
 }
 
 // How many slots a changed-slot number names.
-pub fn ones(mask: u16) -> u32
-    ensures { λ r. ⌜ (r ≤ 16) × (r ≡ onesOf mask) ⌝ }
+fn ones(mask: u16) -> u32
+    ensures { λ r. ⌜ (r ≤ records) × (r ≡ onesOf mask) ⌝ }
 {
     u16::count_ones(mask)
+}
+
+// The number of events: one for each changed number and each slot that is opened, and the report.
+fn event_count(numbers: u32, others: u16) -> usize
+    requires { ⌜ numbers ≤ perSlot * records ⌝ }
+    ensures { λ r. ⌜ (r ≡ cond (eqb numbers 0) 0 (1 + numbers + onesOf others)) × (r ≤ 1 + perSlot * records + records) ⌝ }
+{
+    if numbers == 0 {
+        return 0;
+    }
+    let slots = ones(others) as usize;
+    1 + (numbers as usize) + slots
+}
+
+// The changed slots, those of them other than the current slot, and the number of events.
+pub struct Changed {
+    pub slots: u16,
+    pub others: u16,
+    pub events: usize,
+}
+
+// What a frame changes in a table whose records from n up stay.
+pub fn count_changes(
+    n: usize,
+    old: [Slot; RECORDS],
+    new: [Slot; RECORDS],
+    current: SlotNumber,
+) -> Changed
+    requires { ⌜ (n ≤ records) × sameFrom n old new × (current .0 < records) ⌝ }
+    ensures { λ r. ⌜ Tells (current .0) old new r ⌝ }
+{
+    let c = compare(n, old, new);
+    let others = without_current(c.mask, current);
+    let events = event_count(c.numbers, others);
+    Changed {
+        slots: c.mask,
+        others,
+        events,
+    }
 }

@@ -8,108 +8,152 @@ use lib.Dec.{leb}
 use lib.IntN.{ℤ}
 use lib.ListN.{length}
 use borrow.Author.Tests.{eq-eqb, le-leb, lt-leb}
-use Rattle.model.specs.Panel.{Panel, base}
+use Rattle.model.specs.Panel.{base, perSlot, records}
+use Rattle.model.specs.Panel as M
 use Rattle.model.specs.Table.{Table}
 use Rattle.model.specs.Records.{bytesOf, lay}
-use Rattle.model.specs.Frame.{rowsOf, sized, valuesGood, newTable, newCounter}
+use Rattle.model.specs.Frame as F
+use Rattle.model.specs.Frame.{rowsOf, sized, framed, newTable, newCounter}
 use Rattle.model.specs.Sending.{sendReport, sending, lastOpened, currentAfter, eventsSent, changedMask, fewest}
-use Rattle.model.specs.Order.{othersMask}
-use Rattle.model.specs.States.{writerGood}
 use Rattle.model.specs.Calls as C
-use Rattle.model.specs.Calls.{frameEvents, needOf, roomFor, writeCall, writeBuffer}
+use Rattle.model.specs.Calls.{frameEvents, needOf, roomFor, taken, writeCall, writeBuffer}
 use Rattle.model.proofs.Bytes.{bytes-length}
 use Rattle.model.proofs.Calls.{frame-count}
 use Rattle.panel.specs.declared.Slot.{Slot}
 use Rattle.common.specs.declared.Verdict.the-variants.{NoRoom}
-use Rattle.panel.specs.Seen.{tableOf, panelSeen}
+use Rattle.panel.specs.Seen.{tableOf, tableFrom, panelSeen}
+use Rattle.panel.proofs.Back.{table-back}
 use Rattle.common.proofs.Signs.{and-false}
 use Rattle.records.proofs.Over.{lay-nil}
+use Rattle.plan.specs.declared.Planned.{Planned}
+use Rattle.plan.specs.Row.{plannedOf}
+use Rattle.tally.specs.declared.Changed.{Changed}
+use Rattle.tally.specs.Told.{Tells}
 use Rattle.send.specs.Sent.{bytesSent, sentBy}
 use Rattle.send.proofs.Parts.{sent-nil}
 use Rattle.writer.specs.declared.WriterState.{WriterState}
 use Rattle.writer.specs.declared.Written.{Written}
-use Rattle.writer.specs.Seen.{seen, writtenFrom, notWrittenBy, writtenBy}
+use Rattle.writer.specs.Seen.{seen, writtenFrom, GoodFrame, notWrittenBy, writtenBy}
 use Rattle.writer.proofs.States.{good-current}
-use Rattle.writer.proofs.Outcome.{answer-by, buffer-by, refusal-is, taken-is}
+use Rattle.writer.proofs.Outcome.{answer-by, buffer-by, refusal-is}
 use Rattle.writer.proofs.Events.{none-sent, some-sent, some-last, bytes-are}
 
-module _ (s : WriterState) (f : List ℤ) (at : ℕ) (buf : List ℕ) (g : writerGood base (seen s) ≡ true) (z : length f ≡ 4 * s .setup .n) (v : valuesGood (panelSeen (s .setup)) f ≡ true) where
-  abbrev p : Panel
-  p = panelSeen (s .setup)
+-- What is known of a good frame f of the state s once p is planned and c counted.
+pub record Known (s : WriterState) (f : List ℤ) (p : Planned) (c : Changed) : Type 0 where
+  pub good : GoodFrame s f
+  pub plan : plannedOf p ≡ framed (s .counter) (rowsOf (panelSeen (s .setup)) f) (tableOf (s .table))
+  pub tells : Tells (s .current .0) (s .table) (p .table) c
+  pub held : length (s .table) ≡ records
+  pub made : length (p .table) ≡ records
+
+module _ {s : WriterState} {f : List ℤ} {p : Planned} {c : Changed} (k : Known s f p c) (at : ℕ) (buf : List ℕ) where
+  abbrev panel : M.Panel
+  panel = panelSeen (s .setup)
 
   abbrev need : ℕ
-  need = needOf p (seen s .writer) f
+  need = needOf panel (seen s .writer) f
 
   abbrev old : Table
   old = tableOf (s .table)
 
+  abbrev new : Table
+  new = tableOf (p .table)
+
   abbrev current : ℕ
   current = s .current .0
-
-  whole : sized p f ≡ true
-  whole = eq-eqb (length f) (4 * s .setup .n) z
 
   -- The answer and the buffer that the model gives.
   abbrev Promised : Written → List ℕ → Type 0
   Promised r b = (r ≡ writtenFrom (writeCall base (seen s) f at (length buf))) × (b ≡ writeBuffer base (seen s) f at buf)
 
-  -- ---- the table and the counter that were planned, and the number of events
+  whole : sized panel f ≡ true
+  whole = eq-eqb (length f) (perSlot * s .setup .n) (k .good .size)
 
-  module _ (new : List Slot) (counter count mask : ℕ) (et : tableOf new ≡ newTable (s .counter) (rowsOf p f) old) (ek : counter ≡ newCounter (s .counter) (rowsOf p f) old) (em : mask ≡ changedMask old (tableOf new)) (ec : count ≡ fewest current old (tableOf new)) where
-    count-is : count ≡ length (frameEvents p (seen s .writer) f)
-    count-is = ec ∙ ap (fewest current old) et ∙ sym (frame-count base (seen s) f)
+  table-is : new ≡ newTable (s .counter) (rowsOf panel f) old
+  table-is = ap (λ (q : F.Planned). q .table) (k .plan)
 
-    need-is : 8 * count ≡ need
-    need-is = ap (λ n. 8 * n) count-is
+  counter-is : p .counter ≡ newCounter (s .counter) (rowsOf panel f) old
+  counter-is = ap (λ (q : F.Planned). q .counter) (k .plan)
 
-    -- ---- no room
+  count-is : c .events ≡ length (frameEvents panel (seen s .writer) f)
+  count-is = k .tells .events ∙ ap (fewest current old) table-is ∙ sym (frame-count base (seen s) f)
 
-    refused-by : roomFor need at (length buf) ≡ false → Promised (notWrittenBy NoRoom s (8 * count)) buf
-    refused-by e = (
-      ap (notWrittenBy NoRoom s) need-is ∙ refusal-is C.noRoom s need ∙ ap writtenFrom (sym (answer-by base (seen s) f at buf true true true false g whole v e)),
-      sym (buffer-by base (seen s) f at buf true true true false g whole v e),
-    )
+  need-is : 8 * c .events ≡ need
+  need-is = ap (λ n. 8 * n) count-is
 
-    -- The position is past the end.
-    pub past-end : length buf < at → Promised (notWrittenBy NoRoom s (8 * count)) buf
-    past-end l = refused-by (ap (λ b. b && leb need (length buf - at)) (lt-leb at (length buf) l))
+  -- ---- no room
 
-    -- Too few bytes follow it.
-    pub too-few : length buf - at < 8 * count → Promised (notWrittenBy NoRoom s (8 * count)) buf
-    too-few l = refused-by (and-false (leb at (length buf)) _ (lt-leb need (length buf - at) (omega (arith, need-is))))
-
-    -- ---- written
-
-    module _ (la : at ≤ length buf) (ln : 8 * count ≤ length buf - at) where
-      roomy : roomFor need at (length buf) ≡ true
-      roomy = ap₂ (λ a b. a && b) (le-leb at (length buf) la) (le-leb need (length buf - at) (omega (arith, need-is)))
-
-      written : (last : ℕ) (b : List ℕ) → last ≡ currentAfter current old (tableOf new) → b ≡ lay at (bytesSent (sending current old (tableOf new))) buf
-          → Promised (writtenBy (record { setup = s .setup; table = new; current = record { 0 = last }; counter = counter }) count mask) b
-      written last b el eb = (
-        taken-is s f new last counter count mask et el ek count-is em ∙ ap writtenFrom (sym (answer-by base (seen s) f at buf true true true true g whole v roomy)),
-        eb ∙ ap (λ bs. lay at bs buf) (sym (bytes-are (s .setup) current (s .table) new) ∙ ap (λ t. bytesOf (eventsSent p current old t)) et)
-            ∙ sym (buffer-by base (seen s) f at buf true true true true g whole v roomy),
+  refused-by : roomFor need at (length buf) ≡ false → Promised (notWrittenBy NoRoom s (8 * c .events)) buf
+  refused-by e =
+      let answer = answer-by base (seen s) f at buf true true true false (k .good .state) whole (k .good .values) e in (
+        ap (notWrittenBy NoRoom s) need-is ∙ refusal-is C.noRoom s need ∙ ap writtenFrom (sym answer),
+        sym (buffer-by base (seen s) f at buf true true true false (k .good .state) whole (k .good .values) e),
       )
 
-      -- Nothing changed.
-      pub quiet : count ≡ 0 → Promised (writtenBy (record { setup = s .setup; table = new; current = s .current; counter = counter }) count mask) buf
-      quiet e =
-          let none = none-sent (s .table) new current (sym ec ∙ e) in
-          written current buf (sym (ap (lastOpened current) none)) (sym (ap (λ xs. lay at (bytesSent xs) buf) none ∙ ap (λ bs. lay at bs buf) sent-nil ∙ lay-nil at buf))
+  -- The position is past the end.
+  pub past-end : length buf < at → Promised (notWrittenBy NoRoom s (8 * c .events)) buf
+  past-end l = refused-by (ap (λ b. b && leb need (length buf - at)) (lt-leb at (length buf) l))
 
-      module _ (others : ℕ) (lo : length (s .table) ≡ 16) (lw : length new ≡ 16) (eo : others ≡ othersMask current old (tableOf new)) (n : count ≡ 0 → ⊥) where
-        some : sending current old (tableOf new) ≡ sentBy (s .table) new others current ++ sendReport ∷ []
-        some = some-sent (s .table) new current lo lw (good-current s g) others eo (λ e. n (ec ∙ e))
+  -- Too few bytes follow it.
+  pub too-few : length buf - at < 8 * c .events → Promised (notWrittenBy NoRoom s (8 * c .events)) buf
+  too-few l = refused-by (and-false (leb at (length buf)) _ (lt-leb need (length buf - at) (omega (arith, need-is))))
 
-        -- The events have room.
-        pub fits : at + length (bytesSent (sentBy (s .table) new others current ++ sendReport ∷ [])) ≤ length buf
-        fits =
-            let e : length (bytesSent (sentBy (s .table) new others current ++ sendReport ∷ [])) ≡ 8 * count = ap (λ xs. length (bytesSent xs)) (sym some) ∙ ap length (sym (bytes-are (s .setup) current (s .table) new) ∙ ap (λ t. bytesOf (eventsSent p current old t)) et) ∙ bytes-length (frameEvents p (seen s .writer) f) ∙ sym need-is in
-            omega arith
+  -- ---- written
 
-        -- Something changed.
-        pub sent : (last : ℕ) (b : List ℕ) → last ≡ lastOpened current (sentBy (s .table) new others current) → b ≡ lay at (bytesSent (sentBy (s .table) new others current ++ sendReport ∷ [])) buf
-            → Promised (writtenBy (record { setup = s .setup; table = new; current = record { 0 = last }; counter = counter }) count mask) b
-        sent last b el eb =
-            written last b (el ∙ some-last (s .table) new current lo lw (good-current s g) others eo (λ e. n (ec ∙ e))) (eb ∙ ap (λ xs. lay at (bytesSent xs) buf) (sym some))
+  -- The state after the frame, where the slot last written is `last`.
+  abbrev after : ℕ → WriterState
+  after last = record { setup = s .setup; table = p .table; current = record { 0 = last }; counter = p .counter }
+
+  taken-is : (last : ℕ) → last ≡ currentAfter current old new → writtenBy (after last) (c .events) (c .slots) ≡ writtenFrom (taken panel (seen s) f)
+  taken-is last e =
+      let t = sym (table-back (p .table)) ∙ ap tableFrom table-is in
+      let l = e ∙ ap (currentAfter current old) table-is in
+      let m = k .tells .slots ∙ ap (changedMask old) table-is in
+      λ i. writtenBy (record { setup = s .setup; table = t i; current = record { 0 = l i }; counter = counter-is i }) (count-is i) (m i)
+
+  sent-is : bytesSent (sending current old new) ≡ bytesOf (frameEvents panel (seen s .writer) f)
+  sent-is = sym (bytes-are (s .setup) current (s .table) (p .table)) ∙ ap (λ t. bytesOf (eventsSent panel current old t)) table-is
+
+  module _ (inside : at ≤ length buf) (enough : 8 * c .events ≤ length buf - at) where
+    roomy : roomFor need at (length buf) ≡ true
+    roomy = ap₂ (λ a b. a && b) (le-leb at (length buf) inside) (le-leb need (length buf - at) (omega (arith, need-is)))
+
+    written : (last : ℕ) (b : List ℕ) → last ≡ currentAfter current old new → b ≡ lay at (bytesSent (sending current old new)) buf
+        → Promised (writtenBy (after last) (c .events) (c .slots)) b
+    written last b el eb =
+        let answer = answer-by base (seen s) f at buf true true true true (k .good .state) whole (k .good .values) roomy in (
+          taken-is last el ∙ ap writtenFrom (sym answer),
+          eb ∙ ap (λ bs. lay at bs buf) sent-is ∙ sym (buffer-by base (seen s) f at buf true true true true (k .good .state) whole (k .good .values) roomy),
+        )
+
+    -- Nothing changed.
+    pub quiet : c .events ≡ 0 → Promised (writtenBy (after current) (c .events) (c .slots)) buf
+    quiet e =
+        let none = none-sent (s .table) (p .table) current (sym (k .tells .events) ∙ e) in
+        let same = ap (λ xs. lay at (bytesSent xs) buf) none ∙ ap (λ bs. lay at bs buf) sent-nil ∙ lay-nil at buf in
+        written current buf (sym (ap (lastOpened current) none)) (sym same)
+
+    -- Something changed.
+    module _ (n : c .events ≡ 0 → ⊥) where
+      below : current < records
+      below = good-current s (k .good .state)
+
+      not-none : fewest current old new ≡ 0 → ⊥
+      not-none e = n (k .tells .events ∙ e)
+
+      some : sending current old new ≡ sentBy (s .table) (p .table) (c .others) current ++ sendReport ∷ []
+      some = some-sent (s .table) (p .table) current (k .held) (k .made) below (c .others) (k .tells .others) not-none
+
+      -- The events have room.
+      pub fits : at + length (bytesSent (sentBy (s .table) (p .table) (c .others) current ++ sendReport ∷ [])) ≤ length buf
+      fits =
+          let bytes = ap bytesSent (sym some) ∙ sent-is in
+          let e = ap length bytes ∙ bytes-length (frameEvents panel (seen s .writer) f) ∙ sym need-is in
+          omega (arith, e)
+
+      pub sent : (last : ℕ) (b : List ℕ) → last ≡ lastOpened current (sentBy (s .table) (p .table) (c .others) current)
+          → b ≡ lay at (bytesSent (sentBy (s .table) (p .table) (c .others) current ++ sendReport ∷ [])) buf
+          → Promised (writtenBy (after last) (c .events) (c .slots)) b
+      sent last b el eb =
+          let e = some-last (s .table) (p .table) current (k .held) (k .made) below (c .others) (k .tells .others) not-none in
+          written last b (el ∙ e) (eb ∙ ap (λ xs. lay at (bytesSent xs) buf) (sym some))

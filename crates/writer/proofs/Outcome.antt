@@ -55,19 +55,3 @@ module _ (l : Layout) (s : M.WriterState) (f : List ℤ) (at : ℕ) where
 -- A refusal, whatever the state holds.
 pub refusal-is : (v : C.Verdict) (s : WriterState) (need : ℕ) → notWrittenBy (verdictFrom v) s (cond (eqb (verdictNumber v) 5) need 0) ≡ writtenFrom (notWritten v (seen s) need)
 refusal-is v s need = ap (λ t. notWrittenBy (verdictFrom v) t (cond (eqb (verdictNumber v) 5) need 0)) (sym (state-back s))
-
--- An accepted frame, from its parts.
-pub taken-is : (s : WriterState) (f : List ℤ) (new : List Slot) (last counter count mask : ℕ)
-    → (let p = panelSeen (s .setup) in let old = tableOf (s .table) in
-    tableOf new ≡ newTable (s .counter) (rowsOf p f) old
-    → last ≡ currentAfter (s .current .0) old (tableOf new)
-    → counter ≡ newCounter (s .counter) (rowsOf p f) old
-    → count ≡ length (frameEvents p (seen s .writer) f)
-    → mask ≡ changedMask old (tableOf new)
-    → writtenBy (record { setup = s .setup; table = new; current = record { 0 = last }; counter = counter }) count mask ≡ writtenFrom (taken p (seen s) f))
-taken-is s f new last counter count mask et el ek en em =
-    let old = tableOf (s .table) in
-    let t = sym (table-back new) ∙ ap tableFrom et in
-    let c = el ∙ ap (currentAfter (s .current .0) old) et in
-    let m = em ∙ ap (changedMask old) et in
-    λ i. writtenBy (record { setup = s .setup; table = t i; current = record { 0 = c i }; counter = ek i }) (en i) (m i)

@@ -6,7 +6,7 @@ use native.Mathlib.Omega.{arith}
 use lib.Dec.{eqb, ltb}
 use lib.ListN.{length, length-map}
 use borrow.Author.Tests.{eq-eqb}
-use Rattle.model.specs.Panel.{base, setupGood}
+use Rattle.model.specs.Panel.{base, setupGood, idCount, records}
 use Rattle.model.specs.Table.{idsDiffer, goodRecords}
 use Rattle.model.specs.States.{writerGood}
 use Rattle.model.proofs.Bools.{is-true}
@@ -20,13 +20,13 @@ use Rattle.writer.specs.Seen.{seen}
 -- ---- the tests
 
 -- The whole test, from what its parts came to: the setup, the records, the ids, the current slot.
-pub good-by : (s : WriterState) → length (s .table) ≡ 16 → (a r d b : Bool)
+pub good-by : (s : WriterState) → length (s .table) ≡ records → (a r d b : Bool)
     → setupGood base (setupOf (s .setup)) ≡ a → goodRecords (fieldsOf (s .setup)) (s .setup .n) (tableOf (s .table)) ≡ r → idsDiffer (tableOf (s .table)) ≡ d → ltb (s .current .0) (s .setup .n) ≡ b
-    → writerGood base (seen s) ≡ (a && (r && d && b && ltb (s .counter) 65536))
+    → writerGood base (seen s) ≡ (a && (r && d && b && ltb (s .counter) idCount))
 unfolding writerGood
 good-by s l a r d b ea er ed eb =
-    let e : eqb (length (tableOf (s .table))) 16 ≡ true = eq-eqb _ 16 (length-map (s .table) slotOf ∙ l) in
-    λ i. ea i && ((e i && er i) && ed i && eb i && ltb (s .counter) 65536)
+    let e : eqb (length (tableOf (s .table))) records ≡ true = eq-eqb _ records (length-map (s .table) slotOf ∙ l) in
+    λ i. ea i && ((e i && er i) && ed i && eb i && ltb (s .counter) idCount)
 
 -- ---- what is known of a well-formed state
 
@@ -37,14 +37,14 @@ module _ (s : WriterState) (g : writerGood base (seen s) ≡ true) where
   pub good-setup : setupGood base (setupOf (s .setup)) ≡ true
   good-setup = is-true (setupGood base (setupOf (s .setup))) (facts .setup)
 
-  pub good-size : s .setup .n ≤ 16
+  pub good-size : s .setup .n ≤ records
   good-size = small (s .setup) good-setup .n
 
-  pub good-current : s .current .0 < 16
+  pub good-current : s .current .0 < records
   good-current = omega (arith, facts .writer .below, good-size)
 
   pub good-rest : sameFrom (s .setup .n) (s .table) unusedAll
   good-rest = table-rest (s .setup) (s .table) (facts .writer .good)
 
-  pub good-counter : s .counter < 65536
+  pub good-counter : s .counter < idCount
   good-counter = facts .writer .counts

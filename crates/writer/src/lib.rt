@@ -1,18 +1,15 @@
 // The type B writer: a fresh state, and a frame's events into the caller's buffer with the state after it.
 ghost use mathlib.Core.Path.{_≡_};
-ghost use mathlib.Core.Bool.{true, cond};
-ghost use Prim.Native.Nat.{_+_, _*_, _≤_};
-ghost use lib.Count.{ones};
-ghost use lib.Dec.{eqb};
 ghost use lib.ListN.{length};
 ghost use Rattle.model.specs.Panel.{base};
-ghost use Rattle.model.specs.Frame.{valuesGood};
 ghost use Rattle.model.specs.States.{writerGood};
 ghost use Rattle.model.specs.Calls.{freshWriterCall, writeCall, writeBuffer};
-ghost use Rattle.panel.specs.Seen.{setupOf, panelSeen};
-ghost use Rattle.writer.specs.Seen.{seen, freshFrom, writtenFrom, notWrittenBy, writtenBy};
+ghost use Rattle.panel.specs.Seen.{setupOf};
+ghost use Rattle.writer.specs.Seen.{seen, freshFrom, writtenFrom, GoodFrame, notWrittenBy, writtenBy};
 use common::SlotNumber;
+use common::TrackingId;
 use common::Verdict;
+use panel::PER_SLOT;
 use panel::RECORDS;
 use panel::Setup;
 use panel::Slot;
@@ -89,19 +86,7 @@ fn state_ok(s: WriterState) -> bool
     if setup.n <= current.0 {
         return false;
     }
-    s.counter < 65536
-}
-
-// The number of events: one for each changed number and each slot that is opened, and the report.
-fn event_count(numbers: u32, others: u16) -> usize
-    requires { ⌜ numbers ≤ 64 ⌝ }
-    ensures { λ r. ⌜ (r ≡ cond (eqb numbers 0) 0 (1 + numbers + ones others)) × (r ≤ 81) ⌝ }
-{
-    if numbers == 0 {
-        return 0;
-    }
-    let slots = tally::ones(others) as usize;
-    1 + (numbers as usize) + slots
+    s.counter < TrackingId::COUNT
 }
 
 fn refused(verdict: Verdict, state: WriterState, need: usize) -> Written
@@ -142,7 +127,7 @@ fn taken(
 
 // A good frame of a good state: its events, unless there is no room for them.
 fn accept(state: WriterState, frame: &[i32], buf: &mut [u8], at: usize) -> Written
-    requires { ⌜ (writerGood base (seen state) ≡ true) × (length (now frame) ≡ 4 * state .setup .n) × (valuesGood (panelSeen (state .setup)) (now frame) ≡ true) ⌝ }
+    requires { ⌜ GoodFrame state (now frame) ⌝ }
     ensures { λ r. ⌜ (r ≡ writtenFrom (writeCall base (seen state) (now (frame .entry)) at (length (now (buf .entry))))) × (now (buf .exit) ≡ writeBuffer base (seen state) (now (frame .entry)) at (now (buf .entry))) ⌝ }
 {
     let setup = state.setup;
@@ -150,21 +135,19 @@ fn accept(state: WriterState, frame: &[i32], buf: &mut [u8], at: usize) -> Writt
     let current = state.current;
     let p = plan::plan_frame(setup.n, old, state.counter, frame);
     let new = p.table;
-    let m = tally::count_changes(setup.n, old, new);
-    let others = tally::without_current(m.mask, current);
-    let count = event_count(m.numbers, others);
-    let need = 8 * count;
+    let c = tally::count_changes(setup.n, old, new, current);
+    let need = 8 * c.events;
     if buf.len() < at {
         return refused(Verdict::NoRoom, state, need);
     }
     if buf.len() - at < need {
         return refused(Verdict::NoRoom, state, need);
     }
-    if count == 0 {
-        return taken(setup, new, current, p.counter, count, m.mask);
+    if c.events == 0 {
+        return taken(setup, new, current, p.counter, c.events, c.slots);
     }
-    let last = send::send_frame(buf, at, old, new, others, current);
-    taken(setup, new, last, p.counter, count, m.mask)
+    let last = send::send_frame(buf, at, old, new, c.others, current);
+    taken(setup, new, last, p.counter, c.events, c.slots)
 }
 
 // Writes a frame's events into `buf` from the position `at` on; refusals 2 to 5 in rising number.
@@ -175,7 +158,7 @@ pub fn write(state: WriterState, frame: &[i32], buf: &mut [u8], at: usize) -> Wr
     if !state_ok(state) {
         return refused(Verdict::State, state, 0);
     }
-    if frame.len() != 4 * setup.n {
+    if frame.len() != PER_SLOT * setup.n {
         return refused(Verdict::Frame, state, 0);
     }
     if !frame::values_ok(setup, frame) {

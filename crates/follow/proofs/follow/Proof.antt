@@ -9,6 +9,7 @@ use Prim.Native.Nat.{ℕ, _+_, _-_, _*_, _/_, _≤_, _<_}
 use native.Mathlib.Omega.{arith}
 use lib.IntN.{pos}
 use lib.ListN.{length, getD}
+use Rattle.model.specs.Panel.{records}
 use Rattle.model.specs.Table.{idsDiffer}
 use Rattle.model.specs.Events.{Event, classify}
 use Rattle.model.specs.Reader as R
@@ -38,7 +39,7 @@ record Kept (setup : Setup) (bytes : List ℕ) (count : ℕ) (first now : R.Read
   pub left :
       onward (panelSeen setup) first nothing (eventsFrom count bytes 0)
       ≡ onward (panelSeen setup) now (sofar frames skipped) (eventsFrom (count - k) bytes (8 * k))
-  pub slots : setup .n ≤ 16
+  pub slots : setup .n ≤ records
 
 abbrev Inv-loop : tie.InvT-loop
 Inv-loop setup bytes count shown₀ pending₀ written₀ current₀ frames₀ skipped₀ k₀ shown pending written current frames skipped k =
@@ -81,7 +82,7 @@ here p =
     }
 
 held : (p : tie.After-act-of Inv-loop μ-loop) → top p .loop .current < length (top p .loop .pending)
-held p = let inv = top p .loop .inv in omega (arith, inv .below, inv .slots, inv .pends .sixteen)
+held p = let inv = top p .loop .inv in omega (arith, inv .below, inv .slots, inv .pends .full)
 
 asked : (p : tie.After-act-of Inv-loop μ-loop) → asks (here p) ≡ actOf (p .act-of .result)
 asked p = sym (p .act-of .ensures ∙ ap (classify (panelSeen (setup p))) (p .before .record-at .ensures))

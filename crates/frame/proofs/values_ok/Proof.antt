@@ -5,6 +5,7 @@ use mathlib.Core.Path.{_≡_, sym, ap, _∙_}
 use mathlib.Core.Bool.{_&&_}
 use Prim.Native.Nat.{_≤_, _+_, _-_, _*_}
 use native.Mathlib.Omega.{arith}
+use Rattle.model.specs.Panel.{perSlot}
 use Rattle.model.specs.Frame.{numbersFrom, goodRow, goodRows, rowsFrom}
 use Rattle.model.proofs.Rows.{rows-next, rows-none}
 use Rattle.panel.specs.Seen.{axesOf}
@@ -14,7 +15,7 @@ use Rattle.frame.proofs.values_ok.Statement.{statement}
 use Rattle.frame.proofs.values_ok.Tie as tie
 
 abbrev Inv-loop : tie.InvT-loop
-Inv-loop setup frame n s₀ s = (s ≤ setup .n) × (goodRows (axesOf setup) (rowsFrom 4 (setup .n) frame 0) ≡ goodRows (axesOf setup) (rowsFrom 4 (setup .n - s) frame (4 * s)))
+Inv-loop setup frame n s₀ s = (s ≤ setup .n) × (goodRows (axesOf setup) (rowsFrom perSlot (setup .n) frame 0) ≡ goodRows (axesOf setup) (rowsFrom perSlot (setup .n - s) frame (perSlot * s)))
 
 abbrev μ-loop : tie.MeasureT-loop
 μ-loop setup frame n s₀ s = setup .n - s
@@ -22,14 +23,14 @@ abbrev μ-loop : tie.MeasureT-loop
 -- what a turn's test says of all rows
 step : (c : tie.After-row-ok Inv-loop μ-loop)
     → (let a = c .before .before .before .before .before .before .before .args in let s = c .before .before .before .before .before .before .loop .s in
-    goodRows (axesOf (a .setup)) (rowsFrom 4 (a .setup .n) (a .frame .now) 0) ≡ (c .row-ok .result && goodRows (axesOf (a .setup)) (rowsFrom 4 (a .setup .n - (s + 1)) (a .frame .now) (4 * (s + 1)))))
+    goodRows (axesOf (a .setup)) (rowsFrom perSlot (a .setup .n) (a .frame .now) 0) ≡ (c .row-ok .result && goodRows (axesOf (a .setup)) (rowsFrom perSlot (a .setup .n - (s + 1)) (a .frame .now) (perSlot * (s + 1)))))
 step c =
     let a = c .before .before .before .before .before .before .before .args in
     let l = c .before .before .before .before .before .before .loop in
     let f = a .frame .now in
     let axes = axesOf (a .setup) in
-    let rest = rowsFrom 4 (a .setup .n - (l .s + 1)) f (4 * (l .s + 1)) in
-    let e : c .row-ok .result ≡ goodRow axes (numbersFrom 4 f (4 * l .s)) = c .row-ok .ensures ∙ ap (goodRow axes) (row-read f (4 * l .s) (search needs) (search needs) (search needs) (search needs)) in
+    let rest = rowsFrom perSlot (a .setup .n - (l .s + 1)) f (perSlot * (l .s + 1)) in
+    let e : c .row-ok .result ≡ goodRow axes (numbersFrom perSlot f (perSlot * l .s)) = c .row-ok .ensures ∙ ap (goodRow axes) (row-read f (perSlot * l .s) (search needs) (search needs) (search needs) (search needs)) in
     l .inv .1 ∙ ap (goodRows axes) (rows-next 4 (a .setup .n) (l .s) f (search needs))
     ∙ ap (λ b. b && goodRows axes rest) (sym e)
 
@@ -96,7 +97,7 @@ returns-2 c =
     let a = c .before .before .args in
     let l = c .before .loop in
     let z : a .setup .n - l .s ≡ 0 = omega arith in
-    sym (l .inv .1 ∙ ap (λ m. goodRows (axesOf (a .setup)) (rowsFrom 4 m (a .frame .now) (4 * l .s))) z ∙ ap (goodRows (axesOf (a .setup))) (rows-none 4 (a .frame .now) (4 * l .s)))
+    sym (l .inv .1 ∙ ap (λ m. goodRows (axesOf (a .setup)) (rowsFrom perSlot m (a .frame .now) (perSlot * l .s))) z ∙ ap (goodRows (axesOf (a .setup))) (rows-none 4 (a .frame .now) (perSlot * l .s)))
 
 pub values-ok-spec : {M : Type 1} → statement M
 values-ok-spec =

@@ -4,6 +4,7 @@ use mathlib.Core.Path.{_≡_, ap, ap₂, _∙_}
 use Prim.Native.Nat.{_-_, _*_, _≤_, _<_}
 use native.Mathlib.Omega.{arith}
 use lib.ListN.{length, set}
+use Rattle.model.specs.Panel.{perSlot, records}
 use Rattle.model.specs.Frame.{numbersFrom}
 use Rattle.panel.specs.Seen.{slotFrom}
 use Rattle.panel.proofs.Lent.{row-read}
@@ -12,7 +13,7 @@ use Rattle.image.proofs.image_table.Statement.{statement}
 use Rattle.image.proofs.image_table.Tie as tie
 
 abbrev Inv-loop : tie.InvT-loop
-Inv-loop image n t₀ i₀ t i = (i ≤ n) × (n ≤ 16) × (length image ≡ 4 * n) × (t ≡ filled image i)
+Inv-loop image n t₀ i₀ t i = (i ≤ n) × (n ≤ records) × (length image ≡ perSlot * n) × (t ≡ filled image i)
 
 abbrev μ-loop : tie.MeasureT-loop
 μ-loop image n t₀ i₀ t i = n - i
@@ -78,8 +79,8 @@ loop-again : tie.Need-loop-again Inv-loop μ-loop
 loop-again c =
     let l = c .before .before .before .before .before .before .before .before .args .image .now in
     let i = c .before .before .before .before .before .before .loop .i in
-    let e : c .slot-of .result ≡ slotFrom (numbersFrom 4 l (4 * i)) = c .slot-of .ensures ∙ ap slotFrom (row-read l (4 * i) (search needs) (search needs) (search needs) (search needs)) in
-    let h : i < 16 = omega (arith, c .before .before .before .before .before .before .loop .inv, c .before .before .before .before .before .loop-test .taken) in
+    let e : c .slot-of .result ≡ slotFrom (numbersFrom perSlot l (perSlot * i)) = c .slot-of .ensures ∙ ap slotFrom (row-read l (perSlot * i) (search needs) (search needs) (search needs) (search needs)) in
+    let h : i < records = omega (arith, c .before .before .before .before .before .before .loop .inv, c .before .before .before .before .before .loop-test .taken) in
     (search needs, search needs, search needs, ap₂ (λ t x. set t i x) (c .before .before .before .before .before .before .loop .inv .3) e ∙ filled-next l i h)
 
 returns : tie.Need-returns Inv-loop μ-loop

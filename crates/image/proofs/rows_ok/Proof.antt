@@ -5,6 +5,7 @@ use mathlib.Core.Path.{_≡_, sym, ap, _∙_}
 use mathlib.Core.Bool.{_&&_}
 use Prim.Native.Nat.{_+_, _-_, _*_, _≤_}
 use native.Mathlib.Omega.{arith}
+use Rattle.model.specs.Panel.{perSlot}
 use Rattle.model.specs.Table.{goodSlot, goodRecords}
 use Rattle.model.specs.Frame.{rowsFrom, numbersFrom}
 use Rattle.panel.specs.Seen.{fieldsOf}
@@ -14,20 +15,20 @@ use Rattle.image.proofs.rows_ok.Statement.{statement}
 use Rattle.image.proofs.rows_ok.Tie as tie
 
 abbrev Inv-loop : tie.InvT-loop
-Inv-loop setup image n i₀ i = (i ≤ n) × (goodRecords (fieldsOf setup) n (rowsFrom 4 n image 0) ≡ goodRecords (fieldsOf setup) (n - i) (rowsFrom 4 (n - i) image (4 * i)))
+Inv-loop setup image n i₀ i = (i ≤ n) × (goodRecords (fieldsOf setup) n (rowsFrom perSlot n image 0) ≡ goodRecords (fieldsOf setup) (n - i) (rowsFrom perSlot (n - i) image (perSlot * i)))
 
 abbrev μ-loop : tie.MeasureT-loop
 μ-loop setup image n i₀ i = n - i
 
 step : (c : tie.After-row-ok Inv-loop μ-loop)
-    → goodRecords (fieldsOf (c .before .before .before .before .before .before .before .args .setup)) (c .before .before .before .before .before .before .before .args .setup .n) (rowsFrom 4 (c .before .before .before .before .before .before .before .args .setup .n) (c .before .before .before .before .before .before .before .args .image .now) 0)
-    ≡ (c .row-ok .result && goodRecords (fieldsOf (c .before .before .before .before .before .before .before .args .setup)) (c .before .before .before .before .before .before .before .args .setup .n - (c .before .before .before .before .before .before .loop .i + 1)) (rowsFrom 4 (c .before .before .before .before .before .before .before .args .setup .n - (c .before .before .before .before .before .before .loop .i + 1)) (c .before .before .before .before .before .before .before .args .image .now) (4 * (c .before .before .before .before .before .before .loop .i + 1))))
+    → goodRecords (fieldsOf (c .before .before .before .before .before .before .before .args .setup)) (c .before .before .before .before .before .before .before .args .setup .n) (rowsFrom perSlot (c .before .before .before .before .before .before .before .args .setup .n) (c .before .before .before .before .before .before .before .args .image .now) 0)
+    ≡ (c .row-ok .result && goodRecords (fieldsOf (c .before .before .before .before .before .before .before .args .setup)) (c .before .before .before .before .before .before .before .args .setup .n - (c .before .before .before .before .before .before .loop .i + 1)) (rowsFrom perSlot (c .before .before .before .before .before .before .before .args .setup .n - (c .before .before .before .before .before .before .loop .i + 1)) (c .before .before .before .before .before .before .before .args .image .now) (perSlot * (c .before .before .before .before .before .before .loop .i + 1))))
 step c =
     let u = c .before .before .before .before .before .before .before .args .setup in
     let l = c .before .before .before .before .before .before .before .args .image .now in
     let i = c .before .before .before .before .before .before .loop .i in
-    let e : c .row-ok .result ≡ goodSlot (fieldsOf u) (numbersFrom 4 l (4 * i)) = c .row-ok .ensures ∙ ap (goodSlot (fieldsOf u)) (row-read l (4 * i) (search needs) (search needs) (search needs) (search needs)) in
-    c .before .before .before .before .before .before .loop .inv .1 ∙ good-next (fieldsOf u) l (u .n) i (search needs) ∙ ap (λ b. b && goodRecords (fieldsOf u) (u .n - (i + 1)) (rowsFrom 4 (u .n - (i + 1)) l (4 * (i + 1)))) (sym e)
+    let e : c .row-ok .result ≡ goodSlot (fieldsOf u) (numbersFrom perSlot l (perSlot * i)) = c .row-ok .ensures ∙ ap (goodSlot (fieldsOf u)) (row-read l (perSlot * i) (search needs) (search needs) (search needs) (search needs)) in
+    c .before .before .before .before .before .before .loop .inv .1 ∙ good-next (fieldsOf u) l (u .n) i (search needs) ∙ ap (λ b. b && goodRecords (fieldsOf u) (u .n - (i + 1)) (rowsFrom perSlot (u .n - (i + 1)) l (perSlot * (i + 1)))) (sym e)
 
 loop-holds : tie.Need-loop-holds Inv-loop μ-loop
 loop-holds c =

@@ -5,6 +5,7 @@ use mathlib.Core.Path.{_≡_, refl, sym, ap, _∙_}
 use mathlib.Core.Bool.{_&&_}
 use Prim.Native.Nat.{_-_, _+_}
 use lib.ListN.{drop, getD, getD-replicate}
+use Rattle.model.specs.Panel.{records}
 use Rattle.model.specs.Table.{eqSlot, eqTable}
 use Rattle.panel.specs.Seen.{slotOf, tableOf, blank, unused, unusedAll}
 use Rattle.panel.proofs.Tables.{rest-none, same-turn, same-over}
@@ -15,7 +16,7 @@ abbrev Inv-loop : tie.InvT-loop
 Inv-loop n t i₀ i = eqTable (tableOf (drop n t)) (tableOf (drop n unusedAll)) ≡ eqTable (tableOf (drop i t)) (tableOf (drop i unusedAll))
 
 abbrev μ-loop : tie.MeasureT-loop
-μ-loop n t i₀ i = 16 - i
+μ-loop n t i₀ i = records - i
 
 -- what a turn's test says of the rest
 turn : (c : tie.After-slot-unused Inv-loop μ-loop)
@@ -27,7 +28,7 @@ turn c =
     let i = l .loop .i in
     let t = l .before .args .t2 in
     let rest = eqTable (tableOf (drop (i + 1) t)) (tableOf (drop (i + 1) unusedAll)) in
-    let e : getD unusedAll i blank ≡ unused = getD-replicate 16 i unused blank (search needs) in
+    let e : getD unusedAll i blank ≡ unused = getD-replicate records i unused blank (search needs) in
     let test = ap (λ x. eqSlot (slotOf (getD t i blank)) (slotOf x)) e ∙ sym (c .slot-unused .ensures) in
     l .loop .inv ∙ same-turn t unusedAll i (search needs) (search needs) ∙ ap (λ b. b && rest) test
 

@@ -3,13 +3,14 @@ use borrow.Author.Needs.{needs}
 use borrow.Author.Tests.{not-true, not-false}
 use mathlib.Core.Path.{_≡_, sym, _∙_}
 use mathlib.Core.Bool.{true}
+use Rattle.model.specs.Panel.{records}
 use Rattle.model.specs.Numbers.{between}
 use Rattle.panel.proofs.Setups.{setup-1, setup-2, setup-3, setup-4}
 use Rattle.panel.proofs.setup_ok.Statement.{statement}
 use Rattle.panel.proofs.setup_ok.Tie as tie
 
 -- What each test that was passed showed.
-n-good : (c : tie.Else1) → between 1 16 (c .before .before .args .s .n) ≡ true
+n-good : (c : tie.Else1) → between 1 records (c .before .before .args .s .n) ≡ true
 n-good c = sym (c .before .between .ensures) ∙ not-false (c .before .between .result) (c .if1 .left)
 
 x-good : (c : tie.Else2) → between 1 32_767 (c .before .before .before .before .before .args .s .x) ≡ true

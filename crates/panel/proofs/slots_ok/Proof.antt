@@ -6,6 +6,7 @@ use mathlib.Core.Bool.{_&&_}
 use Prim.Native.Nat.{_≤_, _-_, _+_}
 use native.Mathlib.Omega.{arith}
 use lib.ListN.{take, drop, length}
+use Rattle.model.specs.Panel.{records}
 use Rattle.model.specs.Table.{goodRecords}
 use Rattle.panel.specs.Seen.{tableOf, fieldsOf}
 use Rattle.panel.proofs.Tables.{slots-turn, slots-over}
@@ -21,7 +22,7 @@ abbrev μ-loop : tie.MeasureT-loop
 
 room : (s : tie.Start Inv-loop μ-loop) → s .args .setup .n ≤ length (s .args .t2)
 room s =
-    let l : length (s .args .t2) ≡ 16 = search needs in
+    let l : length (s .args .t2) ≡ records = search needs in
     omega arith
 
 -- what a turn's test says of all slots

@@ -9,6 +9,7 @@ use lib.ListN.{take, drop, getD, length}
 use mir.Syntax.{w32}
 use mir.Val.{SFits, toZ, ofZ}
 use mir.ValLaws.{toZ-ofZ}
+use Rattle.model.specs.Panel.{records}
 use Rattle.model.specs.Numbers.{eqZ}
 use Rattle.model.specs.Table.{ids, unheld}
 use Rattle.panel.specs.Seen.{tableOf, blank}
@@ -32,7 +33,7 @@ itself s =
 
 room : (s : tie.Start Inv-loop μ-loop) → s .args .k ≤ length (s .args .t1)
 room s =
-    let l : length (s .args .t1) ≡ 16 = search needs in
+    let l : length (s .args .t1) ≡ records = search needs in
     omega arith
 
 -- what a turn's test says of all ids

@@ -1,4 +1,4 @@
--- `panel::unused_table` is sixteen unused records. Assumes nothing.
+-- `panel::unused_table` is a table of unused records. Assumes nothing.
 use borrow.Author.Needs.{needs}
 use Rattle.panel.proofs.unused_table.Statement.{statement}
 use Rattle.panel.proofs.unused_table.Tie as tie

@@ -1,10 +1,11 @@
 -- `plan::choose` finds the first number that is not taken. The loop has tried and passed taken ones; `tries` are left. Assumes nothing.
 use borrow.Author.Needs.{needs}
 use mathlib.Core.Path.{_≡_, sym, ap, _∙_}
-use Prim.Native.Nat.{_≤_, _<_, _-_}
+use Prim.Native.Nat.{_≤_, _<_, _-_, _*_}
 use native.Mathlib.Omega.{arith}
 use lib.IntN.{pos}
 use Rattle.common.specs.declared.TrackingId.{TrackingId}
+use Rattle.model.specs.Panel.{idCount, records}
 use Rattle.model.specs.Table.{unheld}
 use Rattle.model.specs.Frame.{freeId, pick, next}
 use Rattle.model.proofs.Tries.{freeId-short, pick-stays, pick-held}
@@ -12,7 +13,7 @@ use Rattle.plan.proofs.choose.Statement.{statement}
 use Rattle.plan.proofs.choose.Tie as tie
 
 abbrev Inv-loop : tie.InvT-loop
-Inv-loop taken from k₀ tries₀ k tries = (k < 65536) × (tries ≤ 32) × (freeId taken from ≡ pick tries taken k)
+Inv-loop taken from k₀ tries₀ k tries = (k < idCount) × (tries ≤ 2 * records) × (freeId taken from ≡ pick tries taken k)
 
 abbrev μ-loop : tie.MeasureT-loop
 μ-loop taken from k₀ tries₀ k tries = tries
@@ -27,7 +28,7 @@ told c =
 loop-holds : tie.Need-loop-holds Inv-loop μ-loop
 loop-holds c =
     let a = c .args in
-    (search needs, search needs, freeId-short 32 (a .taken .now) (a .from) (c .pre .1) (c .pre .0) (omega arith))
+    (search needs, search needs, freeId-short (2 * records) (a .taken .now) (a .from) (c .pre .1) (c .pre .0) (omega arith))
 
 id-of-requires : tie.Need-id-of-requires Inv-loop μ-loop
 id-of-requires c κs = search needs

@@ -2,7 +2,7 @@
 use borrow.Author.Needs.{needs}
 use mathlib.Core.Path.{_≡_, sym, ap, _∙_}
 use mathlib.Core.List.{List, _∷_, [], _++_}
-use Prim.Native.Nat.{_≤_, _<_, _-_}
+use Prim.Native.Nat.{_≤_, _<_, _-_, _*_}
 use native.Mathlib.Numerals.{add-one}
 use native.Mathlib.Omega.{arith}
 use lib.IntN.{ℤ}
@@ -11,6 +11,7 @@ use lib.Seq.{take-suc-set}
 use mir.Syntax.{w32}
 use mir.Val.{SFits}
 use mir.ValLaws.{toZ-ofZ}
+use Rattle.model.specs.Panel.{records}
 use Rattle.model.specs.Table.{ids}
 use Rattle.panel.specs.Seen.{tableOf, blank}
 use Rattle.panel.proofs.Apart.{more-ids}
@@ -18,7 +19,7 @@ use Rattle.plan.proofs.ids_of.Statement.{statement}
 use Rattle.plan.proofs.ids_of.Tie as tie
 
 abbrev Inv-loop : tie.InvT-loop
-Inv-loop n t l₀ i₀ l i = (i ≤ n) × (length l ≡ 32) × (take i l ≡ ids (tableOf (take i t)))
+Inv-loop n t l₀ i₀ l i = (i ≤ n) × (length l ≡ 2 * records) × (take i l ≡ ids (tableOf (take i t)))
 
 abbrev μ-loop : tie.MeasureT-loop
 μ-loop n t l₀ i₀ l i = n - i
@@ -51,7 +52,7 @@ loop-again c =
     let l = c .before .before .before .before .loop in
     let v = getD t (l .i) blank .id .0 in
     let f : SFits w32 v = search needs in
-    let lt : length t ≡ 16 = search needs in
+    let lt : length t ≡ records = search needs in
     let room : l .i < length (l .l) = omega (arith, l .inv .1) in
     let more = take-suc-set (l .l) (l .i) v room ∙ ap (λ (a : List ℤ). a ++ v ∷ []) (l .inv .2) ∙ sym (more-ids t (l .i) (omega arith)) in
     rw (toZ-ofZ w32 v f) (search needs, length-set (l .l) (l .i) v ∙ l .inv .1, rw add-one more)

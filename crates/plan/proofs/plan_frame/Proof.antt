@@ -1,4 +1,4 @@
--- `plan::plan_frame` makes the table and the counter after a frame. The loop has made the first s slots; the first m of `taken` are the ids taken so far, and the rest of t is as it was. Assumes nothing.
+-- `plan::plan_frame` makes the table and the counter after a frame. The first m of `taken` are the ids taken so far. Assumes nothing.
 use borrow.Author.Needs.{needs}
 use mathlib.Core.Path.{_≡_, refl, sym, ap, _∙_}
 use mathlib.Core.Bool.{true, false, _&&_}
@@ -12,97 +12,159 @@ use lib.Seq.{length-take-le, take-suc-set}
 use mir.Syntax.{w32}
 use mir.Val.{SFits}
 use mir.ValLaws.{toZ-ofZ}
+use Rattle.model.specs.Panel.{idCount, perSlot, records}
 use Rattle.model.specs.Numbers.{eqZ}
 use Rattle.model.specs.Table.{ids, unheld}
-use Rattle.model.specs.Frame.{Fate, fate, next, freeId, rowsFrom, slotAfter, takenAfter, counterAfter, tableFrom, counterFrom, newTable, newCounter}
+use Rattle.model.specs.Frame.{Fate, fate, next, freeId, rowsFrom, slotAfter, takenAfter, counterAfter, after, planned, framed}
 use Rattle.model.proofs.Bools.{and-left, and-right}
 use Rattle.model.proofs.Rows.{rows-next, rows-none, row-of-four}
-use Rattle.model.proofs.Tries.{Same, same-last, table-same, counter-same}
+use Rattle.model.proofs.Tries.{Same, same-last, planned-same}
 use Rattle.panel.specs.declared.Slot.{Slot}
 use Rattle.common.specs.declared.TrackingId.{TrackingId}
 use Rattle.panel.specs.Seen.{slotOf, tableOf, blank}
 use Rattle.panel.proofs.Apart.{front-holds}
 use Rattle.plan.specs.Row.{begun, held, stayed, plainRow, plainRows}
-use Rattle.plan.proofs.Turn.{begun-slot, stayed-slot, begun-taken, begun-counter, stayed-taken, stayed-counter, table-turn, counter-turn}
+use Rattle.plan.proofs.Turn.{begun-slot, stayed-slot, begun-taken, begun-counter, stayed-taken, stayed-counter, plan-turn}
 use Rattle.plan.proofs.plan_frame.Statement.{statement}
 use Rattle.plan.proofs.plan_frame.Tie as tie
 
+-- The first s slots are made, and what is planned of the rest is left to make: with it the whole is what the frame plans.
+record Made (n counter : ℕ) (frame : List ℤ) (old : List Slot) (taken : List ℤ) (m : ℕ) (t : List Slot) (k s : ℕ) : Type 0 where
+  inside : s ≤ n
+  fewTaken : m ≤ records + s
+  counts : k < idCount
+  slots : length t ≡ records
+  places : length taken ≡ 2 * records
+  plain : plainRows (rowsFrom perSlot (n - s) frame (perSlot * s)) ≡ true
+  whole : framed counter (rowsFrom perSlot n frame 0) (tableOf old)
+      ≡ after (tableOf (take s t)) (planned (take m taken) k (rowsFrom perSlot (n - s) frame (perSlot * s)) (tableOf (drop s t)))
+
 abbrev Inv-loop : tie.InvT-loop
-Inv-loop n counter frame taken₀ m₀ t₀ k₀ s₀ taken m t k s =
-    (s ≤ n) × (m ≤ 16 + s) × (k < 65536) × (length t ≡ 16) × (length taken ≡ 32)
-    × (plainRows (rowsFrom 4 (n - s) frame (4 * s)) ≡ true)
-    × (newTable counter (rowsFrom 4 n frame 0) (tableOf t₀) ≡ tableOf (take s t) ++ tableFrom (take m taken) k (rowsFrom 4 (n - s) frame (4 * s)) (tableOf (drop s t)))
-    × (newCounter counter (rowsFrom 4 n frame 0) (tableOf t₀) ≡ counterFrom (take m taken) k (rowsFrom 4 (n - s) frame (4 * s)) (tableOf (drop s t)))
+Inv-loop n counter frame taken₀ m₀ t₀ k₀ s₀ taken m t k s = Made n counter frame t₀ taken m t k s
 
 abbrev μ-loop : tie.MeasureT-loop
 μ-loop n counter frame taken₀ m₀ t₀ k₀ s₀ taken m t k s = n - s
 
--- ---- slot s and its row, which both arms of the loop start from
+-- ---- places
 
--- this turn of the loop, and the call's own place
-abbrev turn : tie.After-begins Inv-loop μ-loop → tie.In-loop Inv-loop μ-loop
+-- Where both arms of the loop start: slot s and the kind of its row are read, and it is known whether a contact begins.
+abbrev Row : Type 0
+Row = tie.After-begins Inv-loop μ-loop
+
+-- The turn of the loop that it is in, the loop's locals before the turn, and where the call starts.
+abbrev turn : Row → tie.In-loop Inv-loop μ-loop
 turn b = b .before .before .before .before
 
-abbrev start : tie.After-begins Inv-loop μ-loop → tie.Start Inv-loop μ-loop
-start b = turn b .before .before .before
+abbrev top : Row → tie.At-loop Inv-loop μ-loop
+top b = turn b .before
 
-abbrev fr : tie.After-begins Inv-loop μ-loop → List ℤ
+abbrev start : Row → tie.Start Inv-loop μ-loop
+start b = top b .before .before
+
+-- The arm in which a contact begins: it is known to, its id is chosen, held as an id, and the slot is made.
+abbrev Begun : Type 0
+Begun = tie.After-after Inv-loop μ-loop
+
+abbrev made : Begun → tie.After-contact Inv-loop μ-loop
+made c = c .before .before
+
+abbrev named : Begun → tie.After-id-of Inv-loop μ-loop
+named c = made c .before .before .before .before
+
+abbrev chosen : Begun → tie.After-choose Inv-loop μ-loop
+chosen c = named c .before
+
+abbrev beginning : Begun → tie.Then1 Inv-loop μ-loop
+beginning c = chosen c .before .before
+
+-- The other arm.
+abbrev Stayed : Type 0
+Stayed = tie.After-stays Inv-loop μ-loop
+
+abbrev staying : Stayed → tie.Else1 Inv-loop μ-loop
+staying c = c .before .before .before .before
+
+-- ---- slot s and its row
+
+abbrev fr : Row → List ℤ
 fr b = start b .args .frame .now
 
-abbrev s : tie.After-begins Inv-loop μ-loop → ℕ
-s b = turn b .before .loop .s
+abbrev n : Row → ℕ
+n b = start b .args .n
 
-abbrev number : ℕ → tie.After-begins Inv-loop μ-loop → ℤ
-number i b = getD (fr b) (4 * s b + i) (pos 0)
+abbrev s : Row → ℕ
+s b = top b .loop .s
 
-abbrev kind : tie.After-begins Inv-loop μ-loop → ℤ
-kind b = getD (fr b) (4 * s b) (pos 0)
+abbrev t : Row → List Slot
+t b = top b .loop .t
 
-abbrev row : tie.After-begins Inv-loop μ-loop → List ℤ
+abbrev number : ℕ → Row → ℤ
+number i b = getD (fr b) (perSlot * s b + i) (pos 0)
+
+abbrev kind : Row → ℤ
+kind b = getD (fr b) (perSlot * s b) (pos 0)
+
+abbrev row : Row → List ℤ
 row b = kind b ∷ number 1 b ∷ number 2 b ∷ number 3 b ∷ []
 
-abbrev rest : tie.After-begins Inv-loop μ-loop → List (List ℤ)
-rest b = rowsFrom 4 (start b .args .n - (s b + 1)) (fr b) (4 * (s b + 1))
+abbrev rest : Row → List (List ℤ)
+rest b = rowsFrom perSlot (n b - (s b + 1)) (fr b) (perSlot * (s b + 1))
 
-abbrev was : tie.After-begins Inv-loop μ-loop → Slot
-was b = getD (turn b .before .loop .t) (s b) blank
+abbrev was : Row → Slot
+was b = getD (t b) (s b) blank
 
-abbrev becomes : tie.After-begins Inv-loop μ-loop → Fate
+abbrev becomes : Row → Fate
 becomes b = fate (kind b) (was b .id .0)
 
--- the ids taken so far, and the id that a contact that begins here takes
-abbrev taken : tie.After-begins Inv-loop μ-loop → List ℤ
-taken b = take (turn b .before .loop .m) (turn b .before .loop .taken)
+-- The ids taken so far, and the id that a contact that begins here takes.
+abbrev taken : Row → List ℤ
+taken b = take (top b .loop .m) (top b .loop .taken)
 
-abbrev given : tie.After-begins Inv-loop μ-loop → ℕ
-given b = freeId (taken b) (turn b .before .loop .k)
+abbrev given : Row → ℕ
+given b = freeId (taken b) (top b .loop .k)
 
-inside : (b : tie.After-begins Inv-loop μ-loop) → s b < length (turn b .before .loop .t)
-inside b = omega (arith, turn b .loop-test .taken, turn b .before .loop .inv .3, start b .pre .0)
+known : (b : Row) → Made (n b) (start b .args .counter) (fr b) (start b .args .old) (top b .loop .taken) (top b .loop .m) (t b) (top b .loop .k) (s b)
+known b = top b .loop .inv
 
-rows-are : (b : tie.After-begins Inv-loop μ-loop) → rowsFrom 4 (start b .args .n - s b) (fr b) (4 * s b) ≡ row b ∷ rest b
-rows-are b = rows-next 4 (start b .args .n) (s b) (fr b) (turn b .loop-test .taken) ∙ ap {B = List (List ℤ)} (λ r. r ∷ rest b) (row-of-four (fr b) (4 * s b))
+below : (b : Row) → s b < n b
+below b = turn b .loop-test .taken
 
-plain : (b : tie.After-begins Inv-loop μ-loop) → (plainRow (row b) && plainRows (rest b)) ≡ true
-plain b = sym (ap plainRows (rows-are b)) ∙ turn b .before .loop .inv .5
+inside : (b : Row) → s b < length (t b)
+inside b = omega (arith, below b, known b .slots, start b .pre .0)
 
-begins-is : (b : tie.After-begins Inv-loop μ-loop) → b .begins .result ≡ begun (becomes b)
+-- There is a place left among the taken ids.
+placed : (b : Row) → top b .loop .m < length (top b .loop .taken)
+placed b = omega (arith, below b, known b .fewTaken, known b .places, start b .pre .0)
+
+rows-are : (b : Row) → rowsFrom perSlot (n b - s b) (fr b) (perSlot * s b) ≡ row b ∷ rest b
+rows-are b = rows-next 4 (n b) (s b) (fr b) (below b) ∙ ap {B = List (List ℤ)} (λ r. r ∷ rest b) (row-of-four (fr b) (perSlot * s b))
+
+plain : (b : Row) → (plainRow (row b) && plainRows (rest b)) ≡ true
+plain b = sym (ap plainRows (rows-are b)) ∙ known b .plain
+
+plain-row : (b : Row) → plainRow (row b) ≡ true
+plain-row b = and-left (plainRow (row b)) (plainRows (rest b)) (plain b)
+
+plain-rest : (b : Row) → plainRows (rest b) ≡ true
+plain-rest b = and-right (plainRow (row b)) (plainRows (rest b)) (plain b)
+
+begins-is : (b : Row) → b .begins .result ≡ begun (becomes b)
 begins-is b =
     let f : SFits w32 (kind b) = search needs in
     rw (toZ-ofZ w32 (kind b) f) at (b .begins .ensures)
 
 -- What is left to make, once the slot is w, the ids taken are `more` and the counter is k.
-module _ (b : tie.After-begins Inv-loop μ-loop) (w : Slot) (more : List ℤ) (k : ℕ) (same : Same (takenAfter (becomes b) (given b) (taken b)) more) (count : counterAfter (becomes b) (given b) (turn b .before .loop .k) ≡ k) where
-  table-left : slotOf w ≡ slotAfter (becomes b) (given b) (slotOf (was b)) (number 1 b ∷ number 2 b ∷ number 3 b ∷ [])
-      → newTable (start b .args .counter) (rowsFrom 4 (start b .args .n) (fr b) 0) (tableOf (start b .args .old)) ≡ tableOf (take (s b + 1) (set (turn b .before .loop .t) (s b) w)) ++ tableFrom more k (rest b) (tableOf (drop (s b + 1) (set (turn b .before .loop .t) (s b) w)))
-  table-left e =
-      turn b .before .loop .inv .6 ∙ ap (λ r. tableOf (take (s b) (turn b .before .loop .t)) ++ tableFrom (taken b) (turn b .before .loop .k) r (tableOf (drop (s b) (turn b .before .loop .t)))) (rows-are b)
-      ∙ table-turn (taken b) (turn b .before .loop .k) (turn b .before .loop .t) (s b) (inside b) (row b) (rest b) w more k e same count
+left : (b : Row) (w : Slot) (more : List ℤ) (k : ℕ)
+    → slotOf w ≡ slotAfter (becomes b) (given b) (slotOf (was b)) (number 1 b ∷ number 2 b ∷ number 3 b ∷ [])
+    → Same (takenAfter (becomes b) (given b) (taken b)) more → counterAfter (becomes b) (given b) (top b .loop .k) ≡ k
+    → framed (start b .args .counter) (rowsFrom perSlot (n b) (fr b) 0) (tableOf (start b .args .old))
+    ≡ after (tableOf (take (s b + 1) (set (t b) (s b) w))) (planned more k (rest b) (tableOf (drop (s b + 1) (set (t b) (s b) w))))
+left b w more k e same count =
+    known b .whole
+    ∙ ap (λ r. after (tableOf (take (s b) (t b))) (planned (taken b) (top b .loop .k) r (tableOf (drop (s b) (t b))))) (rows-are b)
+    ∙ plan-turn (taken b) (top b .loop .k) (t b) (s b) (inside b) (row b) (rest b) w more k e same count
 
-  counter-left : newCounter (start b .args .counter) (rowsFrom 4 (start b .args .n) (fr b) 0) (tableOf (start b .args .old)) ≡ counterFrom more k (rest b) (tableOf (drop (s b + 1) (set (turn b .before .loop .t) (s b) w)))
-  counter-left =
-      turn b .before .loop .inv .7 ∙ ap (λ r. counterFrom (taken b) (turn b .before .loop .k) r (tableOf (drop (s b) (turn b .before .loop .t)))) (rows-are b)
-      ∙ counter-turn (taken b) (turn b .before .loop .k) (turn b .before .loop .t) (s b) (inside b) (row b) (rest b) w more k same count
+-- ---- the needs
 
 ids-of-requires : tie.Need-ids-of-requires Inv-loop μ-loop
 ids-of-requires c κs = search needs
@@ -111,21 +173,20 @@ loop-holds : tie.Need-loop-holds Inv-loop μ-loop
 loop-holds c =
     let a = c .before .args in
     let z : a .n - 0 ≡ a .n = omega arith in
-    let lt : length (a .old) ≡ 16 = search needs in
-    let ll : length (c .ids-of .result) ≡ 32 = search needs in
-    let rows = rowsFrom 4 (a .n) (a .frame .now) 0 in
+    let lt : length (a .old) ≡ records = search needs in
+    let ll : length (c .ids-of .result) ≡ 2 * records = search needs in
+    let rows = rowsFrom perSlot (a .n) (a .frame .now) 0 in
     let l = take (a .n) (c .ids-of .result) in
     let same : Same (ids (tableOf (a .old))) l = λ k. front-holds (a .old) (a .n) (c .before .pre .4) (pos k) refl ∙ ap (unheld (pos k)) (sym (c .ids-of .ensures)) in
-    rw z (
-      search needs,
-      search needs,
-      search needs,
-      lt,
-      ll,
-      c .before .pre .3,
-      table-same (ids (tableOf (a .old))) l (a .counter) rows (tableOf (a .old)) same,
-      counter-same (ids (tableOf (a .old))) l (a .counter) rows (tableOf (a .old)) same,
-    )
+    record {
+      inside = omega arith;
+      fewTaken = omega (arith, c .before .pre .0);
+      counts = c .before .pre .1;
+      slots = lt;
+      places = ll;
+      plain = rw z (c .before .pre .3);
+      whole = rw z (planned-same (ids (tableOf (a .old))) l (a .counter) rows (tableOf (a .old)) same);
+    }
 
 mul-i : tie.Need-mul-i Inv-loop μ-loop
 mul-i c = search needs
@@ -151,21 +212,15 @@ array-share-prefix-taken c = search needs
 slice-aggregate-choose : tie.Need-slice-aggregate-choose Inv-loop μ-loop
 slice-aggregate-choose c =
     let b = c .before .before in
-    let l = turn b .before .loop in
-    let st = start b in
-    let h : l .s < st .args .n = turn b .loop-test .taken in
-    let fit : l .m ≤ length (l .taken) = omega (arith, l .inv .1, l .inv .4, st .pre .0) in
-    sym (length-take-le (l .m) (l .taken) fit)
+    let fit : top b .loop .m ≤ length (top b .loop .taken) = omega (arith, placed b) in
+    sym (length-take-le (top b .loop .m) (top b .loop .taken) fit)
 
 choose-requires : tie.Need-choose-requires Inv-loop μ-loop
 choose-requires c κs =
     let b = c .before .before in
-    let l = turn b .before .loop in
-    let st = start b in
-    let h : l .s < st .args .n = turn b .loop-test .taken in
-    let fit : l .m ≤ length (l .taken) = omega (arith, l .inv .1, l .inv .4, st .pre .0) in
-    let few : length (take (l .m) (l .taken)) ≡ l .m = length-take-le (l .m) (l .taken) fit in
-    (omega (arith, few, l .inv .1, st .pre .0), l .inv .2)
+    let fit : top b .loop .m ≤ length (top b .loop .taken) = omega (arith, placed b) in
+    let few : length (taken b) ≡ top b .loop .m = length-take-le (top b .loop .m) (top b .loop .taken) fit in
+    (omega (arith, placed b, known b .places), known b .counts)
 
 id-of-requires : tie.Need-id-of-requires Inv-loop μ-loop
 id-of-requires c κs = search needs
@@ -226,35 +281,35 @@ loop-less c = search needs
 
 loop-again : tie.Need-loop-again Inv-loop μ-loop
 loop-again c =
-    let b = c .before .before .before .before .before .before .before .before .before .before in
-    let l = turn b .before .loop in
-    let h : l .s < start b .args .n = turn b .loop-test .taken in
+    let b = beginning c .before in
     let j = given b in
     let f1 : SFits w32 (number 1 b) = search needs in
     let f2 : SFits w32 (number 2 b) = search needs in
     let f3 : SFits w32 (number 3 b) = search needs in
-    let yes : begun (becomes b) ≡ true = sym (begins-is b) ∙ c .before .before .before .before .before .before .before .before .before .if1 .taken in
-    let id = c .before .before .before .before .before .before .id-of in
-    let ji : c .before .before .before .before .before .before .before .choose .result ≡ j = c .before .before .before .before .before .before .before .choose .ensures .1 in
+    let yes : begun (becomes b) ≡ true = sym (begins-is b) ∙ beginning c .if1 .taken in
+    let id = named c .id-of in
+    let ji : chosen c .choose .result ≡ j = chosen c .choose .ensures .1 in
     let fi : SFits w32 (id .result .0) = search needs in
     let v : id .result .0 ≡ pos j = ap (λ (x : TrackingId). x .0) (id .ensures) ∙ ap pos ji in
-    let w = c .before .before .contact .result in
-    let e : w ≡ held (pos j) (number 1 b) (number 2 b) (number 3 b) = rw (toZ-ofZ w32 (number 1 b) f1, toZ-ofZ w32 (number 2 b) f2, toZ-ofZ w32 (number 3 b) f3, v) at (c .before .before .contact .ensures) in
-    let fit : l .m < length (l .taken) = omega (arith, l .inv .1, l .inv .4, start b .pre .0) in
-    let more = take (l .m + 1) (set (l .taken) (l .m) (pos j)) in
-    let last : more ≡ taken b ++ pos j ∷ [] = rw add-one (take-suc-set (l .taken) (l .m) (pos j) fit) in
+    let w = made c .contact .result in
+    let e : w ≡ held (pos j) (number 1 b) (number 2 b) (number 3 b) =
+    (rw (toZ-ofZ w32 (number 1 b) f1, toZ-ofZ w32 (number 2 b) f2, toZ-ofZ w32 (number 3 b) f3) at (made c .contact .ensures))
+    ∙ ap (λ i. held i (number 1 b) (number 2 b) (number 3 b)) v in
+    let m = top b .loop .m in
+    let more = take (m + 1) (set (top b .loop .taken) m (pos j)) in
+    let last : more ≡ taken b ++ pos j ∷ [] = rw add-one (take-suc-set (top b .loop .taken) m (pos j) (placed b)) in
     let same : Same (takenAfter (becomes b) j (taken b)) more = rw (last, begun-taken (becomes b) j (taken b) yes) (same-last (pos j) (taken b)) in
-    let count : counterAfter (becomes b) j (l .k) ≡ c .after .result = begun-counter (becomes b) j (l .k) yes ∙ sym (c .after .ensures ∙ ap next ji) in
-    rw (toZ-ofZ w32 (id .result .0) fi, v) (
-      omega arith,
-      omega (arith, l .inv .1),
-      omega (arith, c .after .ensures),
-      length-set (l .t) (l .s) w ∙ l .inv .3,
-      length-set (l .taken) (l .m) (pos j) ∙ l .inv .4,
-      and-right (plainRow (row b)) (plainRows (rest b)) (plain b),
-      table-left b w more (c .after .result) same count (ap slotOf e ∙ begun-slot (was b) (number 1 b) (number 2 b) (number 3 b) j (kind b) yes (and-left (plainRow (row b)) (plainRows (rest b)) (plain b))),
-      counter-left b w more (c .after .result) same count,
-    )
+    let count : counterAfter (becomes b) j (top b .loop .k) ≡ c .after .result = begun-counter (becomes b) j (top b .loop .k) yes ∙ sym (c .after .ensures ∙ ap next ji) in
+    let slot = ap slotOf e ∙ begun-slot (was b) (number 1 b) (number 2 b) (number 3 b) j (kind b) yes (plain-row b) in
+    rw (toZ-ofZ w32 (id .result .0) fi, v) (record {
+      inside = omega (arith, below b);
+      fewTaken = omega (arith, known b .fewTaken);
+      counts = omega (arith, c .after .ensures);
+      slots = length-set (t b) (s b) w ∙ known b .slots;
+      places = length-set (top b .loop .taken) m (pos j) ∙ known b .places;
+      plain = plain-rest b;
+      whole = left b w more (c .after .result) slot same count;
+    })
 
 add-stays : tie.Need-add-stays Inv-loop μ-loop
 add-stays c = search needs
@@ -300,40 +355,41 @@ loop-less-2 c = search needs
 
 loop-again-2 : tie.Need-loop-again-2 Inv-loop μ-loop
 loop-again-2 c =
-    let b = c .before .before .before .before .before in
-    let l = turn b .before .loop in
-    let h : l .s < start b .args .n = turn b .loop-test .taken in
+    let b = staying c .before in
     let f0 : SFits w32 (kind b) = search needs in
     let f1 : SFits w32 (number 1 b) = search needs in
     let f2 : SFits w32 (number 2 b) = search needs in
     let f3 : SFits w32 (number 3 b) = search needs in
-    let no : begun (becomes b) ≡ false = sym (begins-is b) ∙ c .before .before .before .before .if1 .left in
+    let no : begun (becomes b) ≡ false = sym (begins-is b) ∙ staying c .if1 .left in
     let w = c .stays .result in
-    let e : w ≡ stayed (eqZ (kind b) (pos 0)) (was b) (number 1 b) (number 2 b) (number 3 b) = rw (toZ-ofZ w32 (kind b) f0, toZ-ofZ w32 (number 1 b) f1, toZ-ofZ w32 (number 2 b) f2, toZ-ofZ w32 (number 3 b) f3) at (c .stays .ensures) in
+    let e : w ≡ stayed (eqZ (kind b) (pos 0)) (was b) (number 1 b) (number 2 b) (number 3 b) =
+    rw (toZ-ofZ w32 (kind b) f0, toZ-ofZ w32 (number 1 b) f1, toZ-ofZ w32 (number 2 b) f2, toZ-ofZ w32 (number 3 b) f3) at (c .stays .ensures) in
     let same : Same (takenAfter (becomes b) (given b) (taken b)) (taken b) = rw (stayed-taken (becomes b) (given b) (taken b) no) (λ i. refl) in
-    let count : counterAfter (becomes b) (given b) (l .k) ≡ l .k = stayed-counter (becomes b) (given b) (l .k) no in (
-      omega arith,
-      omega (arith, l .inv .1),
-      l .inv .2,
-      length-set (l .t) (l .s) w ∙ l .inv .3,
-      l .inv .4,
-      and-right (plainRow (row b)) (plainRows (rest b)) (plain b),
-      table-left b w (taken b) (l .k) same count (ap slotOf e ∙ stayed-slot (was b) (number 1 b) (number 2 b) (number 3 b) (given b) (kind b) no (and-left (plainRow (row b)) (plainRows (rest b)) (plain b))),
-      counter-left b w (taken b) (l .k) same count,
-    )
+    let count : counterAfter (becomes b) (given b) (top b .loop .k) ≡ top b .loop .k = stayed-counter (becomes b) (given b) (top b .loop .k) no in
+    let slot = ap slotOf e ∙ stayed-slot (was b) (number 1 b) (number 2 b) (number 3 b) (given b) (kind b) no (plain-row b) in
+    record {
+      inside = omega (arith, below b);
+      fewTaken = omega (arith, known b .fewTaken);
+      counts = known b .counts;
+      slots = length-set (t b) (s b) w ∙ known b .slots;
+      places = known b .places;
+      plain = plain-rest b;
+      whole = left b w (taken b) (top b .loop .k) slot same count;
+    }
 
 returns : tie.Need-returns Inv-loop μ-loop
 returns c =
     let l = c .before .loop in
     let a = c .before .before .before .args in
     let f = a .frame .now in
-    let T = take (l .m) (l .taken) in
+    let front = tableOf (take (l .s) (l .t)) in
     let z : a .n - l .s ≡ 0 = omega arith in
-    let none : rowsFrom 4 (a .n - l .s) f (4 * l .s) ≡ [] = ap (λ m. rowsFrom 4 m f (4 * l .s)) z ∙ rows-none 4 f (4 * l .s) in (
-      sym (l .inv .6 ∙ ap (λ r. tableOf (take (l .s) (l .t)) ++ tableFrom T (l .k) r (tableOf (drop (l .s) (l .t)))) none
-          ∙ sym (map-append slotOf (take (l .s) (l .t)) (drop (l .s) (l .t))) ∙ ap tableOf (take-append-drop (l .s) (l .t))),
-      sym (l .inv .7 ∙ ap (λ r. counterFrom T (l .k) r (tableOf (drop (l .s) (l .t)))) none),
-    )
+    let none : rowsFrom perSlot (a .n - l .s) f (perSlot * l .s) ≡ [] = ap (λ m. rowsFrom perSlot m f (perSlot * l .s)) z ∙ rows-none 4 f (perSlot * l .s) in
+    let all : front ++ tableOf (drop (l .s) (l .t)) ≡ tableOf (l .t) =
+    sym (map-append slotOf (take (l .s) (l .t)) (drop (l .s) (l .t))) ∙ ap tableOf (take-append-drop (l .s) (l .t)) in
+    sym (l .inv .whole
+    ∙ ap (λ r. after front (planned (take (l .m) (l .taken)) (l .k) r (tableOf (drop (l .s) (l .t))))) none
+    ∙ ap (λ x. record { table = x; counter = l .k }) all)
 
 pub plan-frame-spec : {M : Type 1} → statement M
 plan-frame-spec =

@@ -4,6 +4,7 @@ use mathlib.Core.Path.{_≡_, sym, ap, _∙_}
 use Prim.Native.Nat.{_<_}
 use native.Mathlib.Omega.{arith}
 use lib.ListN.{length}
+use Rattle.model.specs.Panel.{records}
 use Rattle.model.specs.Calls.{askedIn}
 use Rattle.model.specs.Reader.{following}
 use Rattle.reader.specs.Seen.{askedFrom}
@@ -33,7 +34,7 @@ returns : tie.Need-returns
 returns c =
     let t = c .before .before .before .before .args .t2 in
     let k = c .before .before .before .before .args .k in
-    let len : length t ≡ 16 = search needs in
+    let len : length t ≡ records = search needs in
     let h : k < length t = omega (arith, len, c .before .before .before .before .pre) in
     rw (c .before .before .enum-told .given .1) (c .shown-answer .ensures ∙ ap (λ x. askedFrom (askedIn following x)) (sym (slot-at t k h)))
 

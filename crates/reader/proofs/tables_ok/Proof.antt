@@ -3,6 +3,7 @@ use borrow.Author.Needs.{needs}
 use borrow.Author.Tests.{not-true, not-false, le-ltb, lt-ltb}
 use mathlib.Core.Path.{_≡_, sym, _∙_}
 use lib.ListN.{length}
+use Rattle.model.specs.Panel.{records}
 use Rattle.model.specs.Table.{goodTable, idsDiffer}
 use Rattle.panel.specs.Seen.{panelSeen, tableOf, unusedAll, sameFrom}
 use Rattle.panel.proofs.Tables.{unmapped, table-good, good-rest}
@@ -13,26 +14,26 @@ shown-rest : (c : tie.After-table-ok2) → (let s = c .before .before .before .b
 shown-rest c =
     let t = c .before .before .before in
     let s = t .before .before .before .args .s in
-    let len : length (s .shown) ≡ 16 = search (needs, unmapped) in
+    let len : length (s .shown) ≡ records = search (needs, unmapped) in
     good-rest (s .setup) (s .shown) len (sym (t .table-ok .ensures) ∙ not-false (t .table-ok .result) (c .before .before .if1 .left))
 
 pending-rest : (c : tie.Else2) → (let s = c .before .before .before .before .before .before .before .args .s in sameFrom (s .setup .n) (s .pending) unusedAll)
 pending-rest c =
     let p = c .before in
     let s = p .before .before .before .before .before .before .args .s in
-    let len : length (s .pending) ≡ 16 = search (needs, unmapped) in
+    let len : length (s .pending) ≡ records = search (needs, unmapped) in
     good-rest (s .setup) (s .pending) len (sym (p .table-ok2 .ensures) ∙ not-false (p .table-ok2 .result) (c .if2 .left))
 
 shown-is : (c : tie.After-table-ok) → c .table-ok .result ≡ goodTable (panelSeen (c .before .before .before .args .s .setup)) (tableOf (c .before .before .before .args .s .shown))
 shown-is c =
     let s = c .before .before .before .args .s in
-    let len : length (s .shown) ≡ 16 = search (needs, unmapped) in
+    let len : length (s .shown) ≡ records = search (needs, unmapped) in
     c .table-ok .ensures ∙ sym (table-good (s .setup) (s .shown) len)
 
 pending-is : (c : tie.After-table-ok2) → c .table-ok2 .result ≡ goodTable (panelSeen (c .before .before .before .before .before .before .args .s .setup)) (tableOf (c .before .before .before .before .before .before .args .s .pending))
 pending-is c =
     let s = c .before .before .before .before .before .before .args .s in
-    let len : length (s .pending) ≡ 16 = search (needs, unmapped) in
+    let len : length (s .pending) ≡ records = search (needs, unmapped) in
     c .table-ok2 .ensures ∙ sym (table-good (s .setup) (s .pending) len)
 
 ids-are : (c : tie.After-ids-differ) → c .ids-differ .result ≡ idsDiffer (tableOf (c .before .before .before .before .before .before .before .before .args .s .shown))

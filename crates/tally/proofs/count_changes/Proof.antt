@@ -1,111 +1,44 @@
--- `tally::count_changes` counts what changed. The loop has counted the slots from s on. Assumes nothing.
-use borrow.Author.Needs.{needs}
-use mathlib.Core.Path.{_≡_, sym, ap, ap₂, _∙_}
-use Prim.Native.Nat.{_<_, _≤_, _+_, _-_, _*_}
-use native.Mathlib.Omega.{arith}
+-- `tally::count_changes` tells the changed slots, the others of them, and the number of events. Assumes nothing.
+use mathlib.Core.Path.{_≡_, ap, ap₂, _∙_}
+use mathlib.Core.Bool.{cond}
+use Prim.Native.Nat.{_+_, _-_, _^_}
+use lib.Bits.{bitAnd}
+use lib.Count.{ones}
 use lib.Dec.{eqb}
-use lib.ListN.{length, getD}
-use Rattle.model.specs.Sending.{oneUnless, changedIn}
-use Rattle.panel.specs.Seen.{slotOf, blank}
-use Rattle.tally.proofs.Mask.{maskFrom, numbersFrom, mask-turn, numbers-turn, mask-rest, numbers-rest, mask-room}
+use Rattle.model.specs.Sending.{slotDone, changedOthers, othersMask}
+use Rattle.model.proofs.Ones.{mask-ones}
+use Rattle.model.proofs.Order.{mask-without}
+use Rattle.panel.specs.Seen.{tableOf}
+use borrow.Author.Needs.{needs}
 use Rattle.tally.proofs.count_changes.Statement.{statement}
 use Rattle.tally.proofs.count_changes.Tie as tie
 
-abbrev Inv-loop : tie.InvT-loop
-Inv-loop n old new mask₀ numbers₀ s₀ mask numbers s = (s ≤ 16) × (mask ≡ maskFrom old new s) × (numbers ≡ numbersFrom old new s) × (numbers ≤ 4 * (16 - s))
+compare-requires : tie.Need-compare-requires
+compare-requires c κs = search needs
 
-abbrev μ-loop : tie.MeasureT-loop
-μ-loop n old new mask₀ numbers₀ s₀ mask numbers s = s
+without-current-requires : tie.Need-without-current-requires
+without-current-requires c κs = search needs
 
-abbrev top : tie.After-some Inv-loop μ-loop → tie.At-loop Inv-loop μ-loop
-top c = c .before .before .before .before .before
+event-count-requires : tie.Need-event-count-requires
+event-count-requires c κs = search needs
 
--- what a turn makes of the two counts
-turn : (c : tie.After-some Inv-loop μ-loop)
-    → (let a = top c .before .args in let l = top c .loop in
-    (c .some .result + 2 * l .mask ≡ maskFrom (a .t2) (a .t3) (l .s - 1))
-    × (c .before .differ .result + l .numbers ≡ numbersFrom (a .t2) (a .t3) (l .s - 1))
-    × (c .some .result + 2 * l .mask < 65536))
-turn c =
-    let old = top c .before .args .t2 in
-    let new = top c .before .args .t3 in
-    let l = top c .loop in
-    let s = l .s - 1 in
-    let lo : length old ≡ 16 = search needs in
-    let ln : length new ≡ 16 = search needs in
-    let up : s + 1 ≡ l .s = omega arith in
-    let in-slot = changedIn (slotOf (getD old s blank)) (slotOf (getD new s blank)) in
-    let d : c .before .differ .result ≡ in-slot = c .before .differ .ensures .1 in
-    let b : c .some .result ≡ oneUnless (eqb in-slot 0) = c .some .ensures .1 ∙ ap (λ k. oneUnless (eqb k 0)) d in
-    let m = rw up at (mask-turn old new s (omega arith) (omega arith)) in
-    let k = rw up at (numbers-turn old new s (omega arith) (omega arith)) in
-    let mask : c .some .result + 2 * l .mask ≡ maskFrom old new s = ap₂ (λ x y. x + 2 * y) b (l .inv .1) ∙ sym m in
-    (mask, ap₂ (λ x y. x + y) d (l .inv .2) ∙ sym k, omega (arith, mask-room old new s lo))
-
-loop-holds : tie.Need-loop-holds Inv-loop μ-loop
-loop-holds c =
-    let a = c .args in
-    (c .pre .0, sym (mask-rest (a .t2) (a .t3) (a .n) (c .pre .1)), sym (numbers-rest (a .t2) (a .t3) (a .n) (c .pre .1)), search needs)
-
-sub-s : tie.Need-sub-s Inv-loop μ-loop
-sub-s c = search needs
-
-mul-differ : tie.Need-mul-differ Inv-loop μ-loop
-mul-differ c = search needs
-
-array-copy-out-differ : tie.Need-array-copy-out-differ Inv-loop μ-loop
-array-copy-out-differ c = search needs
-
-mul-differ-2 : tie.Need-mul-differ-2 Inv-loop μ-loop
-mul-differ-2 c = search needs
-
-array-copy-out-differ-2 : tie.Need-array-copy-out-differ-2 Inv-loop μ-loop
-array-copy-out-differ-2 c = search needs
-
-differ-requires : tie.Need-differ-requires Inv-loop μ-loop
-differ-requires c κs = search needs
-
-some-requires : tie.Need-some-requires Inv-loop μ-loop
-some-requires c κs = search needs
-
-mul-mask : tie.Need-mul-mask Inv-loop μ-loop
-mul-mask c = omega (arith, turn c .2)
-
-add-mask : tie.Need-add-mask Inv-loop μ-loop
-add-mask c = omega (arith, turn c .2)
-
-add-numbers : tie.Need-add-numbers Inv-loop μ-loop
-add-numbers c = omega (arith, top c .loop .inv .3, c .before .differ .ensures .0)
-
-loop-less : tie.Need-loop-less Inv-loop μ-loop
-loop-less c = search needs
-
-loop-again : tie.Need-loop-again Inv-loop μ-loop
-loop-again c = (omega arith, turn c .0, turn c .1, omega (arith, top c .loop .inv .3, c .before .differ .ensures .0))
-
-returns : tie.Need-returns Inv-loop μ-loop
+returns : tie.Need-returns
 returns c =
-    let l = c .before .loop in
-    let z : l .s ≡ 0 = omega arith in
-    (rw z at (l .inv .1), rw z at (l .inv .2), omega (arith, l .inv .3))
+    let w = c .before in
+    let p = w .before in
+    let a = p .before .args in
+    let k = a .current .0 in
+    let old = tableOf (a .old) in
+    let new = tableOf (a .new) in
+    let others : w .without-current .result ≡ othersMask k old new =
+    w .without-current .ensures ∙ ap (λ m. m - bitAnd m (2 ^ k)) (p .compare .ensures .0) ∙ mask-without k old new in
+    let opened : ones (w .without-current .result) ≡ changedOthers k old new = ap ones others ∙ mask-ones (slotDone k old new) new in
+    record {
+      slots = p .compare .ensures .0;
+      others = others;
+      events = c .event-count .ensures .0 ∙ ap₂ (λ n o. cond (eqb n 0) 0 (1 + n + o)) (p .compare .ensures .1) opened;
+      few = c .event-count .ensures .1;
+    }
 
 pub count-changes-spec : {M : Type 1} → statement M
-count-changes-spec =
-    tie.close
-    (tie.spec
-    Inv-loop
-    μ-loop
-    loop-holds
-    sub-s
-    mul-differ
-    array-copy-out-differ
-    mul-differ-2
-    array-copy-out-differ-2
-    differ-requires
-    some-requires
-    mul-mask
-    add-mask
-    add-numbers
-    loop-less
-    loop-again
-    returns)
+count-changes-spec = tie.close (tie.spec compare-requires without-current-requires event-count-requires returns)

@@ -6,6 +6,7 @@ use native.Mathlib.Omega.{arith}
 use native.Mathlib.Nat.{one-mul}
 use lib.Bits.{bitAnd, and-le-l}
 use lib.Pow.{shl-exact}
+use Rattle.model.specs.Panel.{records}
 use Rattle.tally.proofs.without_current.Statement.{statement}
 use Rattle.tally.proofs.without_current.Tie as tie
 
@@ -21,7 +22,7 @@ sub-result c = and-le-l (c .before .args .mask) _
 returns : tie.Need-returns
 returns c =
     let k = c .before .args .current .0 in
-    let bit : (1 * 2 ^ k) % 2 ^ 16 ≡ 2 ^ k = shl-exact {a = 1} 1 k 16 (omega arith) (omega (arith, c .before .pre)) ∙ one-mul (2 ^ k) in
+    let bit : (1 * 2 ^ k) % 2 ^ records ≡ 2 ^ k = shl-exact {a = 1} 1 k records (omega arith) (omega (arith, c .before .pre)) ∙ one-mul (2 ^ k) in
     ap (λ b. c .before .args .mask - bitAnd (c .before .args .mask) b) bit
 
 pub without-current-spec : {M : Type 1} → statement M

@@ -4,7 +4,7 @@ use mathlib.Core.Bool.{Bool, true, false}
 use lib.Dec.{ltb}
 use lib.ListN.{length}
 use borrow.Author.Tests.{not-true, not-false, le-ltb, lt-ltb}
-use Rattle.model.specs.Panel.{base, setupGood}
+use Rattle.model.specs.Panel.{base, setupGood, records}
 use Rattle.model.specs.Table.{idsDiffer, goodRecords}
 use Rattle.panel.specs.Seen.{tableOf, setupOf, fieldsOf}
 use Rattle.panel.proofs.Tables.{unmapped, good-rest}
@@ -20,14 +20,14 @@ use Rattle.writer.proofs.state_ok.Tie as tie
 abbrev st : tie.Start → WriterState
 st s = s .args .s
 
-sixteen : (s : tie.Start) → length (st s .table) ≡ 16
-sixteen s = search (needs, unmapped)
+full : (s : tie.Start) → length (st s .table) ≡ records
+full s = search (needs, unmapped)
 
 abbrev ids : tie.Start → Bool
 ids s = idsDiffer (tableOf (st s .table))
 
-abbrev records : tie.Start → Bool
-records s = goodRecords (fieldsOf (st s .setup)) (st s .setup .n) (tableOf (st s .table))
+abbrev table : tie.Start → Bool
+table s = goodRecords (fieldsOf (st s .setup)) (st s .setup .n) (tableOf (st s .table))
 
 abbrev below : tie.Start → Bool
 below s = ltb (st s .current .0) (st s .setup .n)
@@ -38,7 +38,7 @@ start c = c .before .before .before
 setup-is : (c : tie.Else1) → setupGood base (setupOf (st (start (c .before)) .setup)) ≡ true
 setup-is c = sym (c .before .setup-ok .ensures) ∙ not-false (c .before .setup-ok .result) (c .if1 .left)
 
-records-are : (c : tie.Else2) → records (start (c .before .before .before)) ≡ true
+records-are : (c : tie.Else2) → table (start (c .before .before .before)) ≡ true
 records-are c = sym (c .before .table-ok .ensures) ∙ not-false (c .before .table-ok .result) (c .if2 .left)
 
 ids-are : (c : tie.Else3) → ids (start (c .before .before .before .before .before)) ≡ true
@@ -53,7 +53,7 @@ returns : tie.Need-returns
 returns c =
     let s = start (c .before) in
     let no = sym (c .before .setup-ok .ensures) ∙ not-true (c .before .setup-ok .result) (c .if1 .taken) in
-    sym (good-by (st s) (sixteen s) false (records s) (ids s) (below s) no refl refl refl)
+    sym (good-by (st s) (full s) false (table s) (ids s) (below s) no refl refl refl)
 
 table-ok-requires : tie.Need-table-ok-requires
 table-ok-requires c κs = small (st (start (c .before)) .setup) (setup-is c) .n
@@ -63,13 +63,13 @@ returns-2 c =
     let e = c .before .before in
     let s = start (e .before) in
     let no = sym (c .before .table-ok .ensures) ∙ not-true (c .before .table-ok .result) (c .if2 .taken) in
-    sym (good-by (st s) (sixteen s) true false (ids s) (below s) (setup-is e) no refl refl)
+    sym (good-by (st s) (full s) true false (ids s) (below s) (setup-is e) no refl refl)
 
 ids-differ-requires : tie.Need-ids-differ-requires
 ids-differ-requires c κs =
     let e = c .before .before in
     let s = start (e .before) in
-    (small (st s .setup) (setup-is e) .n, good-rest (st s .setup) (st s .table) (sixteen s) (records-are c))
+    (small (st s .setup) (setup-is e) .n, good-rest (st s .setup) (st s .table) (full s) (records-are c))
 
 returns-3 : tie.Need-returns-3
 returns-3 c =
@@ -77,7 +77,7 @@ returns-3 c =
     let e = r .before .before in
     let s = start (e .before) in
     let no = sym (c .before .ids-differ .ensures) ∙ not-true (c .before .ids-differ .result) (c .if3 .taken) in
-    sym (good-by (st s) (sixteen s) true true false (below s) (setup-is e) (records-are r) no refl)
+    sym (good-by (st s) (full s) true true false (below s) (setup-is e) (records-are r) no refl)
 
 returns-4 : tie.Need-returns-4
 returns-4 c =
@@ -86,7 +86,7 @@ returns-4 c =
     let e = r .before .before in
     let s = start (e .before) in
     let no = le-ltb (st s .current .0) (st s .setup .n) (c .if4 .taken) in
-    sym (good-by (st s) (sixteen s) true true true false (setup-is e) (records-are r) (ids-are i) no)
+    sym (good-by (st s) (full s) true true true false (setup-is e) (records-are r) (ids-are i) no)
 
 returns-5 : tie.Need-returns-5
 returns-5 c =
@@ -95,7 +95,7 @@ returns-5 c =
     let e = r .before .before in
     let s = start (e .before) in
     let yes = lt-ltb (st s .current .0) (st s .setup .n) (c .before .if4 .left) in
-    sym (good-by (st s) (sixteen s) true true true true (setup-is e) (records-are r) (ids-are i) yes)
+    sym (good-by (st s) (full s) true true true true (setup-is e) (records-are r) (ids-are i) yes)
 
 pub state-ok-spec : {M : Type 1} → statement M
 state-ok-spec =

@@ -7,7 +7,7 @@ use native.Mathlib.Omega.{arith}
 use lib.IntN.{ℤ}
 use lib.ListN.{length}
 use borrow.Author.Tests.{eq-eqb, ne-eqb, not-true, not-false}
-use Rattle.model.specs.Panel.{base}
+use Rattle.model.specs.Panel.{base, perSlot}
 use Rattle.model.specs.Frame.{sized, valuesGood}
 use Rattle.model.specs.States.{writerGood}
 use Rattle.model.specs.Calls as C
@@ -81,7 +81,7 @@ returns-2 c =
     let s = start (e .before) in
     let buf = s .args .buf .now in
     let g = state-good e in
-    let z : whole s ≡ false = ne-eqb (length (fr s)) (4 * st s .setup .n) (c .before .if2 .taken) in
+    let z : whole s ≡ false = ne-eqb (length (fr s)) (perSlot * st s .setup .n) (c .before .if2 .taken) in
     let answer = answer-by base (seen (st s)) (fr s) (s .args .at) buf true false (values s) (room s) g z refl refl in (
       c .refused2 .ensures ∙ refusal-is C.frame (st s) (need s) ∙ ap writtenFrom (sym answer),
       sym (buffer-by base (seen (st s)) (fr s) (s .args .at) buf true false (values s) (room s) g z refl refl),
@@ -116,7 +116,7 @@ accept-requires c κs =
     let f = k .before in
     let e = f .before .before in
     let v : values (start (e .before)) ≡ true = sym (k .values-ok .ensures) ∙ not-false (k .values-ok .result) (c .before .if3 .left) in
-    (state-good e, f .if2 .left, v)
+    record { state = state-good e; size = f .if2 .left; values = v }
 
 same-length : tie.Need-same-length
 same-length c = search needs

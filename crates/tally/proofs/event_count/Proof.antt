@@ -1,4 +1,4 @@
--- `writer::event_count` is the number of events, none where no number changed. Assumes nothing.
+-- `tally::event_count` is the number of events, none where no number changed. Assumes nothing.
 use mathlib.Core.Path.{sym, ap, _∙_}
 use mathlib.Core.Bool.{cond}
 use Prim.Native.Nat.{_+_}
@@ -6,8 +6,8 @@ use native.Mathlib.Omega.{arith}
 use lib.Count.{ones}
 use borrow.Author.Tests.{eq-eqb, ne-eqb}
 use borrow.Author.Needs.{needs}
-use Rattle.writer.proofs.event_count.Statement.{statement}
-use Rattle.writer.proofs.event_count.Tie as tie
+use Rattle.tally.proofs.event_count.Statement.{statement}
+use Rattle.tally.proofs.event_count.Tie as tie
 
 returns : tie.Need-returns
 returns c =
