@@ -108,32 +108,34 @@ pub fn follow(
     while k < count {
         let e = records::record_at(bytes, 8 * k);
         let a = acts::act_of(setup, e);
-        k += 1;
         match a {
             Act::Skip => {
                 skipped += 1;
+                k += 1;
             }
             Act::Bad => {
                 let c = counted(frames, skipped, 1);
-                return lost(shown, SlotNumber(current), Mode::Dropped, bytes, k, c);
+                return lost(shown, SlotNumber(current), Mode::Dropped, bytes, k + 1, c);
             }
             Act::Report => {
                 if written {
                     if !panel::ids_differ(setup.n, pending) {
                         let c = counted(frames, skipped, 1);
-                        return lost(shown, SlotNumber(current), Mode::Stale, bytes, k, c);
+                        return lost(shown, SlotNumber(current), Mode::Stale, bytes, k + 1, c);
                     }
                     written = false;
                 }
                 shown = pending;
                 frames += 1;
+                k += 1;
             }
             Act::Loss => {
                 let c = counted(frames, skipped, 0);
-                return lost(shown, SlotNumber(current), Mode::Dropped, bytes, k, c);
+                return lost(shown, SlotNumber(current), Mode::Dropped, bytes, k + 1, c);
             }
             Act::Select(s) => {
                 current = s.0;
+                k += 1;
             }
             Act::Id(v) => {
                 let old = pending[current];
@@ -144,15 +146,19 @@ pub fn follow(
                     y: old.y,
                     pressure: old.pressure,
                 };
+                k += 1;
             }
             Act::X(v) => {
                 pending[current].x = v;
+                k += 1;
             }
             Act::Y(v) => {
                 pending[current].y = v;
+                k += 1;
             }
             Act::Pressure(v) => {
                 pending[current].pressure = v;
+                k += 1;
             }
         }
     }

@@ -119,14 +119,14 @@ record-at-requires c κs = search needs
 act-of-requires : tie.Need-act-of-requires Inv-loop μ-loop
 act-of-requires c κs = search needs
 
-add-k : tie.Need-add-k Inv-loop μ-loop
-add-k c = search needs
-
 enum-told : tie.Need-enum-told Inv-loop μ-loop
 enum-told c = search needs
 
 add-skipped : tie.Need-add-skipped Inv-loop μ-loop
 add-skipped c = search needs
+
+add-k : tie.Need-add-k Inv-loop μ-loop
+add-k c = search needs
 
 loop-less : tie.Need-loop-less Inv-loop μ-loop
 loop-less c = search needs
@@ -144,6 +144,9 @@ enum-told-2 c = search needs
 
 counted-requires : tie.Need-counted-requires Inv-loop μ-loop
 counted-requires c κs = search needs
+
+add-lost : tie.Need-add-lost Inv-loop μ-loop
+add-lost c = search needs
 
 lost-requires : tie.Need-lost-requires Inv-loop μ-loop
 lost-requires c κs = search needs
@@ -169,6 +172,9 @@ ids-differ-requires c κs =
 counted-requires-2 : tie.Need-counted-requires-2 Inv-loop μ-loop
 counted-requires-2 c κs = search needs
 
+add-lost-2 : tie.Need-add-lost-2 Inv-loop μ-loop
+add-lost-2 c = search needs
+
 lost-requires-2 : tie.Need-lost-requires-2 Inv-loop μ-loop
 lost-requires-2 c κs = search needs
 
@@ -186,6 +192,9 @@ returns-2 c =
 
 add-frames : tie.Need-add-frames Inv-loop μ-loop
 add-frames c = search needs
+
+add-k-2 : tie.Need-add-k-2 Inv-loop μ-loop
+add-k-2 c = search needs
 
 loop-less-2 : tie.Need-loop-less-2 Inv-loop μ-loop
 loop-less-2 c = search needs
@@ -207,6 +216,9 @@ enum-told-4 c = search needs
 counted-requires-3 : tie.Need-counted-requires-3 Inv-loop μ-loop
 counted-requires-3 c κs = search needs
 
+add-lost-3 : tie.Need-add-lost-3 Inv-loop μ-loop
+add-lost-3 c = search needs
+
 lost-requires-3 : tie.Need-lost-requires-3 Inv-loop μ-loop
 lost-requires-3 c κs = search needs
 
@@ -222,6 +234,9 @@ returns-3 c =
 
 enum-known-a : tie.Need-enum-known-a Inv-loop μ-loop
 enum-known-a c = search needs
+
+add-k-3 : tie.Need-add-k-3 Inv-loop μ-loop
+add-k-3 c = search needs
 
 loop-less-3 : tie.Need-loop-less-3 Inv-loop μ-loop
 loop-less-3 c = search needs
@@ -250,6 +265,9 @@ mul-pending c = search needs
 array-set-from-pending : tie.Need-array-set-from-pending Inv-loop μ-loop
 array-set-from-pending c = search needs
 
+add-k-4 : tie.Need-add-k-4 Inv-loop μ-loop
+add-k-4 c = search needs
+
 loop-less-4 : tie.Need-loop-less-4 Inv-loop μ-loop
 loop-less-4 c = search needs
 
@@ -272,6 +290,9 @@ mul-pending-2 c = search needs
 
 way-write-given-pending : tie.Need-way-write-given-pending Inv-loop μ-loop
 way-write-given-pending c = search needs
+
+add-k-5 : tie.Need-add-k-5 Inv-loop μ-loop
+add-k-5 c = search needs
 
 loop-less-5 : tie.Need-loop-less-5 Inv-loop μ-loop
 loop-less-5 c = search needs
@@ -297,6 +318,9 @@ mul-pending-3 c = search needs
 way-write-given-pending-2 : tie.Need-way-write-given-pending-2 Inv-loop μ-loop
 way-write-given-pending-2 c = search needs
 
+add-k-6 : tie.Need-add-k-6 Inv-loop μ-loop
+add-k-6 c = search needs
+
 loop-less-6 : tie.Need-loop-less-6 Inv-loop μ-loop
 loop-less-6 c = search needs
 
@@ -320,6 +344,9 @@ mul-pending-4 c = search needs
 
 way-write-given-pending-3 : tie.Need-way-write-given-pending-3 Inv-loop μ-loop
 way-write-given-pending-3 c = search needs
+
+add-k-7 : tie.Need-add-k-7 Inv-loop μ-loop
+add-k-7 c = search needs
 
 loop-less-7 : tie.Need-loop-less-7 Inv-loop μ-loop
 loop-less-7 c = search needs
@@ -357,28 +384,33 @@ follow-spec =
     mul-record-at
     record-at-requires
     act-of-requires
-    add-k
     enum-told
     add-skipped
+    add-k
     loop-less
     loop-again
     enum-told-2
     counted-requires
+    add-lost
     lost-requires
     returns
     enum-told-3
     ids-differ-requires
     counted-requires-2
+    add-lost-2
     lost-requires-2
     returns-2
     add-frames
+    add-k-2
     loop-less-2
     loop-again-2
     enum-told-4
     counted-requires-3
+    add-lost-3
     lost-requires-3
     returns-3
     enum-known-a
+    add-k-3
     loop-less-3
     loop-again-3
     enum-known-a-2
@@ -386,21 +418,25 @@ follow-spec =
     array-copy-out-old
     mul-pending
     array-set-from-pending
+    add-k-4
     loop-less-4
     loop-again-4
     enum-known-a-3
     mul-pending-2
     way-write-given-pending
+    add-k-5
     loop-less-5
     loop-again-5
     enum-known-a-4
     mul-pending-3
     way-write-given-pending-2
+    add-k-6
     loop-less-6
     loop-again-6
     enum-known-a-5
     mul-pending-4
     way-write-given-pending-3
+    add-k-7
     loop-less-7
     loop-again-7
     kept-requires
