@@ -7,7 +7,7 @@ use Rattle.model.specs.Reader.{Mode, following, dropped, stale, Reader, 
 
 -- Anything but a report.
 abbrev pub NoReport : Act → Type 0
-NoReport skip = Unit {0}
+NoReport (skip w t c) = Unit {0}
 NoReport bad = Unit {0}
 NoReport report = ⊥
 NoReport loss = Unit {0}
@@ -15,19 +15,19 @@ NoReport (slot k) = Unit {0}
 NoReport (number i v) = Unit {0}
 
 still-shown : (m : Mode) (r : Reader) (x : Act) → NoReport x → stepIn m r x .shown ≡ r .shown
-still-shown following r skip n = refl
+still-shown following r (skip w t c) n = refl
 still-shown following r bad n = refl
 still-shown following r report n = absurd n
 still-shown following r loss n = refl
 still-shown following r (slot k) n = refl
 still-shown following r (number i v) n = refl
-still-shown dropped r skip n = refl
+still-shown dropped r (skip w t c) n = refl
 still-shown dropped r bad n = refl
 still-shown dropped r report n = absurd n
 still-shown dropped r loss n = refl
 still-shown dropped r (slot k) n = refl
 still-shown dropped r (number i v) n = refl
-still-shown stale r skip n = refl
+still-shown stale r (skip w t c) n = refl
 still-shown stale r bad n = refl
 still-shown stale r report n = absurd n
 still-shown stale r loss n = refl

@@ -52,7 +52,7 @@ need-self c p new e = rw e (omega (arith, changedNumbers-self new, slots-split c
 
 least-acts : (new : Table) (xs : List Act) (s p : Table) (c : ℕ) → (s ≡ new → ⊥) → steps (follow s p c) xs .mode ≡ following → steps (follow s p c) xs .shown ≡ new → need c p new ≤ length xs
 least-acts new [] s p c ne m e = absurd (ne e)
-least-acts new (skip ∷ xs) s p c ne m e = omega (arith, least-acts new xs s p c ne m e)
+least-acts new (skip w t k ∷ xs) s p c ne m e = omega (arith, least-acts new xs s p c ne m e)
 least-acts new (bad ∷ xs) s p c ne m e = absurd (never-follows _ xs tt m)
 least-acts new (loss ∷ xs) s p c ne m e = absurd (never-follows _ xs tt m)
 least-acts new (slot k ∷ xs) s p c ne m e =

@@ -36,13 +36,13 @@ lost-by-report stale r e d = subst Lost (sym e) tt
 -- One act found in a lost mode leaves it lost.
 lost-step : (m : Mode) (r : Reader) (x : Act) → r .mode ≡ m → Lost m → Lost (stepIn m r x .mode)
 lost-step following r x e l = absurd l
-lost-step dropped r skip e l = subst Lost (sym e) l
+lost-step dropped r (skip w t c) e l = subst Lost (sym e) l
 lost-step dropped r bad e l = subst Lost (sym e) l
 lost-step dropped r report e l = tt
 lost-step dropped r loss e l = subst Lost (sym e) l
 lost-step dropped r (slot k) e l = subst Lost (sym e) l
 lost-step dropped r (number i v) e l = subst Lost (sym e) l
-lost-step stale r skip e l = subst Lost (sym e) l
+lost-step stale r (skip w t c) e l = subst Lost (sym e) l
 lost-step stale r bad e l = subst Lost (sym e) l
 lost-step stale r report e l = subst Lost (sym e) l
 lost-step stale r loss e l = tt

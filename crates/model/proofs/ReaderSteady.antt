@@ -22,7 +22,7 @@ use Rattle.model.specs.States.{settled, goodReader}
 
 -- A slot below n, or a good value of a field.
 abbrev pub Fit : List Field → ℕ → Act → Type 0
-Fit fs n skip = Unit {0}
+Fit fs n (skip w t c) = Unit {0}
 Fit fs n bad = Unit {0}
 Fit fs n report = Unit {0}
 Fit fs n loss = Unit {0}
@@ -30,7 +30,7 @@ Fit fs n (slot k) = T (ltb k n)
 Fit fs n (number i v) = T (goodAt fs i v)
 
 fit-later : (f : Field) (fs : List Field) (n : ℕ) (x : Act) → Fit fs n x → Fit (f ∷ fs) n (later x)
-fit-later f fs n skip g = g
+fit-later f fs n (skip w t c) g = g
 fit-later f fs n bad g = g
 fit-later f fs n report g = g
 fit-later f fs n loss g = g
@@ -53,8 +53,8 @@ fit-slot fs n (negsuc k) = tt
 pub fit : (p : Panel) (e : Event) → Fit (p .fields) (p .slots) (classify p e)
 fit p e =
     fit-cond (p .fields) (p .slots) (eqb (e .type) 0) (synAct (e .code)) _
-    (λ t. fit-cond (p .fields) (p .slots) (eqb (e .code) 0) report _ (λ u. tt) (fit-cond (p .fields) (p .slots) (eqb (e .code) 3) loss skip (λ u. tt) tt))
-    (fit-cond (p .fields) (p .slots) (eqb (e .type) 3) (absAct p (e .code) (e .value)) skip
+    (λ t. fit-cond (p .fields) (p .slots) (eqb (e .code) 0) report _ (λ u. tt) (fit-cond (p .fields) (p .slots) (eqb (e .code) 3) loss _ (λ u. tt) tt))
+    (fit-cond (p .fields) (p .slots) (eqb (e .type) 3) (absAct p (e .code) (e .value)) _
     (λ t. fit-cond (p .fields) (p .slots) (eqb (e .code) slotCode) _ _ (λ u. fit-slot (p .fields) (p .slots) (e .value)) (fit-number (p .fields) (p .slots) (e .code) (e .value)))
     tt)
 
@@ -120,7 +120,7 @@ reported-steady p true r d s = record { shows = s .pends; pends = s .pends; diff
 reported-steady p false r d s = lose-steady p stale r s
 
 following-steady : (p : Panel) (r : Reader) (x : Act) → r .mode ≡ following → Fit (p .fields) (p .slots) x → SteadyReader p r → SteadyReader p (stepFollowing r x)
-following-steady p r skip e f s = s
+following-steady p r (skip w t c) e f s = s
 following-steady p r bad e f s = lose-steady p dropped r s
 following-steady p r report e f s = reported-steady p (idsDiffer (r .pending)) r (λ t. t) s
 following-steady p r loss e f s = lose-steady p dropped r s
@@ -136,13 +136,13 @@ following-steady p r (number i v) e f s =
 
 pub step-steady : (p : Panel) (m : Mode) (r : Reader) (x : Act) → r .mode ≡ m → Fit (p .fields) (p .slots) x → SteadyReader p r → SteadyReader p (stepIn m r x)
 step-steady p following r x e f s = following-steady p r x e f s
-step-steady p dropped r skip e f s = s
+step-steady p dropped r (skip w t c) e f s = s
 step-steady p dropped r bad e f s = s
 step-steady p dropped r report e f s = lose-steady p stale r s
 step-steady p dropped r loss e f s = s
 step-steady p dropped r (slot k) e f s = s
 step-steady p dropped r (number i v) e f s = s
-step-steady p stale r skip e f s = s
+step-steady p stale r (skip w t c) e f s = s
 step-steady p stale r bad e f s = s
 step-steady p stale r report e f s = s
 step-steady p stale r loss e f s = lose-steady p dropped r s

@@ -141,7 +141,7 @@ writeBuffer l s f at buf = cond (isAccepted (writeVerdict l s f at (length buf))
 unfoldable pub runVerdict : Layout → ReaderState → List ℕ → Verdict
 runVerdict l s bs = check (readerGood l s) state (check (eqb (length bs % 8) 0) ragged accepted)
 
--- The answer of a run: the verdict, the state and the four counts.
+-- The answer of a run: the verdict, the state and what the run tells.
 pub record Ran : Type 0 where
   pub verdict : Verdict
   pub state : ReaderState

@@ -1,11 +1,11 @@
--- The reader as a machine: what an act does in each mode, a run, and its four counts. It knows no code. Assumes nothing.
+-- The reader as a machine: what an act does in each mode, a run, and what it tells: five counts and the first event skipped. It knows no code. Assumes nothing.
 use mathlib.Core.Bool.{Bool, true, false, cond}
 use mathlib.Core.List.{List, [], _∷_, map}
 use Prim.Native.Nat.{ℕ, zero, suc, _+_}
 use lib.ListN.{set}
 use Rattle.model.specs.Panel.{Panel}
 use Rattle.model.specs.Table.{Slot, Table, idsDiffer}
-use Rattle.model.specs.Events.{Event, Act, skip, bad, report, loss, slot, number, classify}
+use Rattle.model.specs.Events.{Event, Act, skip, bad, report, loss, slot, number, classify, Unknown, ofType, ofCode}
 
 -- ---- the machine
 
@@ -55,7 +55,7 @@ reported false r = lose stale r
 
 -- An act found while following.
 abbrev pub stepFollowing : Reader → Act → Reader
-stepFollowing r skip = r
+stepFollowing r (skip w t c) = r
 stepFollowing r bad = lose dropped r
 stepFollowing r report = reported (idsDiffer (r .pending)) r
 stepFollowing r loss = lose dropped r
@@ -64,7 +64,7 @@ stepFollowing r (number i v) = pend r (onSlot (r .pending) (r .current) (λ s. s
 
 -- An act found while dropped: all is ignored until the report, which makes it stale.
 abbrev pub stepDropped : Reader → Act → Reader
-stepDropped r skip = r
+stepDropped r (skip w t c) = r
 stepDropped r bad = r
 stepDropped r report = lose stale r
 stepDropped r loss = r
@@ -73,7 +73,7 @@ stepDropped r (number i v) = r
 
 -- An act found while stale: all is ignored, except that a loss makes it dropped.
 abbrev pub stepStale : Reader → Act → Reader
-stepStale r skip = r
+stepStale r (skip w t c) = r
 stepStale r bad = r
 stepStale r report = r
 stepStale r loss = lose dropped r
@@ -99,42 +99,62 @@ steps r (a ∷ xs) = steps (step r a) xs
 abbrev pub read : Panel → Reader → List Event → Reader
 read p r es = steps r (map (classify p) es)
 
--- ---- the four counts
+-- ---- what a run tells
 
--- Tables shown, skipped while following, bad, and ignored.
+-- The first event that was skipped, by its type and code, or none.
+pub data Skipped : Type 0 where
+  none : Skipped
+  event : ℕ → ℕ → Skipped
+
+-- The earlier of two, one after the other.
+abbrev pub earlier : Skipped → Skipped → Skipped
+earlier none b = b
+earlier (event t c) b = event t c
+
+-- Five counts: tables shown, skipped while following for an unknown type and for an unknown code, bad, and ignored; and the first event skipped.
 pub record Counts : Type 0 where
   pub shown : ℕ
-  pub skipped : ℕ
+  pub types : ℕ
+  pub codes : ℕ
   pub bad : ℕ
   pub ignored : ℕ
+  pub first : Skipped
 
 -- Nothing counted.
 abbrev pub nothing : Counts
-nothing = record { shown = 0; skipped = 0; bad = 0; ignored = 0 }
+nothing = record { shown = 0; types = 0; codes = 0; bad = 0; ignored = 0; first = none }
 
 -- One table shown.
 abbrev pub oneShown : Counts
-oneShown = record { shown = 1; skipped = 0; bad = 0; ignored = 0 }
+oneShown = record { shown = 1; types = 0; codes = 0; bad = 0; ignored = 0; first = none }
 
--- One event skipped.
-abbrev pub oneSkipped : Counts
-oneSkipped = record { shown = 0; skipped = 1; bad = 0; ignored = 0 }
+-- One event skipped, of this type and code.
+abbrev pub oneSkipped : Unknown → ℕ → ℕ → Counts
+oneSkipped ofType t c = record { shown = 0; types = 1; codes = 0; bad = 0; ignored = 0; first = event t c }
+oneSkipped ofCode t c = record { shown = 0; types = 0; codes = 1; bad = 0; ignored = 0; first = event t c }
 
 -- One bad value, or one report with repeated ids.
 abbrev pub oneBad : Counts
-oneBad = record { shown = 0; skipped = 0; bad = 1; ignored = 0 }
+oneBad = record { shown = 0; types = 0; codes = 0; bad = 1; ignored = 0; first = none }
 
 -- So many ignored, and nothing else.
 abbrev pub ignoring : ℕ → Counts
-ignoring n = record { shown = 0; skipped = 0; bad = 0; ignored = n }
+ignoring n = record { shown = 0; types = 0; codes = 0; bad = 0; ignored = n; first = none }
 
--- Two counts added up.
+-- Two counts added up, the first one's first.
 abbrev pub plus : Counts → Counts → Counts
-plus a b = record { shown = a .shown + b .shown; skipped = a .skipped + b .skipped; bad = a .bad + b .bad; ignored = a .ignored + b .ignored }
+plus a b = record {
+  shown = a .shown + b .shown;
+  types = a .types + b .types;
+  codes = a .codes + b .codes;
+  bad = a .bad + b .bad;
+  ignored = a .ignored + b .ignored;
+  first = earlier (a .first) (b .first);
+}
 
 -- What an act found while following adds: an empty report counts as shown, repeated ids as one bad, a loss as nothing.
 abbrev pub tallyFollowing : Reader → Act → Counts
-tallyFollowing r skip = oneSkipped
+tallyFollowing r (skip w t c) = oneSkipped w t c
 tallyFollowing r bad = oneBad
 tallyFollowing r report = cond (idsDiffer (r .pending)) oneShown oneBad
 tallyFollowing r loss = nothing
