@@ -21,6 +21,7 @@ pub mod Counts
 pub mod Cut
 pub mod Lost
 pub mod Loss
+pub mod Skips
 pub mod Least
 pub mod Ids
 pub mod Tries

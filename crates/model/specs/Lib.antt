@@ -9,6 +9,7 @@ pub mod Sending
 pub mod Order
 pub mod Reader
 pub mod Loss
+pub mod Skips
 pub mod States
 pub mod Calls
 pub mod Pod
