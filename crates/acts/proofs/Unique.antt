@@ -5,12 +5,13 @@ use lib.IntN.{natAbs}
 use Rattle.model.specs.Events as E
 use Rattle.model.specs.Unique.{OneAnswer}
 use Rattle.acts.specs.declared.Act.{Act}
-use Rattle.acts.specs.declared.Act.the-variants.{Skip, Bad, Report, Loss, Select, Id, X, Y, Pressure}
+use Rattle.acts.specs.declared.Act.the-variants.{UnknownType, UnknownCode, Bad, Report, Loss, Select, Id, X, Y, Pressure}
 use Rattle.acts.specs.Seen.{actOf}
 use Rattle.acts.proofs.act_of.Reads as act-of
 
 abbrev actFrom : E.Act → Act
-actFrom E.skip = Skip
+actFrom (E.skip E.ofType t c) = UnknownType t c
+actFrom (E.skip E.ofCode t c) = UnknownCode t c
 actFrom E.bad = Bad
 actFrom E.report = Report
 actFrom E.loss = Loss
@@ -21,7 +22,8 @@ actFrom (E.number (suc (suc zero)) v) = Y (natAbs v)
 actFrom (E.number (suc (suc (suc i))) v) = Pressure (natAbs v)
 
 act-back : (a : Act) → actFrom (actOf a) ≡ a
-act-back Skip = refl
+act-back (UnknownType t c) = refl
+act-back (UnknownCode t c) = refl
 act-back Bad = refl
 act-back Report = refl
 act-back Loss = refl

@@ -2,11 +2,12 @@
 use lib.IntN.{pos}
 use Rattle.model.specs.Events as E
 use Rattle.acts.specs.declared.Act.{Act}
-use Rattle.acts.specs.declared.Act.the-variants.{Skip, Bad, Report, Loss, Select, Id, X, Y, Pressure}
+use Rattle.acts.specs.declared.Act.the-variants.{UnknownType, UnknownCode, Bad, Report, Loss, Select, Id, X, Y, Pressure}
 
 -- Number 0 is the id, 1 is x, 2 is y and 3 is the pressure.
 abbrev pub actOf : Act → E.Act
-actOf Skip = E.skip
+actOf (UnknownType t c) = E.skip E.ofType t c
+actOf (UnknownCode t c) = E.skip E.ofCode t c
 actOf Bad = E.bad
 actOf Report = E.report
 actOf Loss = E.loss

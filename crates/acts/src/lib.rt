@@ -10,9 +10,10 @@ ghost use Rattle.panel.specs.Seen.{setupOf, panelSeen};
 ghost use Rattle.records.specs.Seen.{eventOf};
 ghost use Rattle.acts.specs.Seen.{actOf};
 
-// A good number comes as what is stored: a slot number, an id, or an unsigned number.
+// An unknown record comes with its type and code. A good number comes as what is stored: a slot number, an id, or an unsigned number.
 pub enum Act {
-    Skip,
+    UnknownType(u16, u16),
+    UnknownCode(u16, u16),
     Bad,
     Report,
     Loss,
@@ -35,7 +36,7 @@ fn syn_act(code: u16) -> Act
     if code == records::DROPPED {
         return Act::Loss;
     }
-    Act::Skip
+    Act::UnknownCode(records::SYN, code)
 }
 
 // A negative value has the bits of a number far above every n, so one comparison judges it.
@@ -91,7 +92,7 @@ fn abs_act(setup: panel::Setup, code: u16, value: u32) -> Act
         }
         return Act::Bad;
     }
-    Act::Skip
+    Act::UnknownCode(records::ABS, code)
 }
 
 // What a record asks of a reader of this setup.
@@ -106,5 +107,5 @@ pub fn act_of(setup: panel::Setup, e: records::Event) -> Act
     if kind == records::ABS {
         return abs_act(setup, e.code, e.value);
     }
-    Act::Skip
+    Act::UnknownType(kind, e.code)
 }

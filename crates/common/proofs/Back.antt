@@ -7,7 +7,9 @@ use Rattle.common.specs.declared.Verdict.{Verdict}
 use Rattle.common.specs.declared.Verdict.the-variants as W
 use Rattle.common.specs.declared.Mode.{Mode}
 use Rattle.common.specs.declared.Mode.the-variants.{Following, Dropped, Stale}
-use Rattle.common.specs.Seen.{verdictOf, verdictFrom, verdictNumber, modeOf, modeFrom}
+use Rattle.common.specs.declared.FirstSkipped.{FirstSkipped}
+use Rattle.common.specs.declared.FirstSkipped.the-variants.{None, Event}
+use Rattle.common.specs.Seen.{verdictOf, verdictFrom, verdictNumber, modeOf, modeFrom, skippedOf, skippedFrom, countsOf, countsFrom}
 
 pub verdict-back : (v : Verdict) → verdictFrom (verdictOf v) ≡ v
 verdict-back W.Accepted = refl
@@ -24,6 +26,10 @@ pub mode-back : (m : Mode) → modeFrom (modeOf m) ≡ m
 mode-back Following = refl
 mode-back Dropped = refl
 mode-back Stale = refl
+
+pub skipped-back : (f : FirstSkipped) → skippedFrom (skippedOf f) ≡ f
+skipped-back None = refl
+skipped-back (Event t c) = refl
 
 -- ---- held and seen again
 
@@ -46,3 +52,11 @@ pub mode-seen : (m : R.Mode) → modeOf (modeFrom m) ≡ m
 mode-seen R.following = refl
 mode-seen R.dropped = refl
 mode-seen R.stale = refl
+
+pub skipped-seen : (f : R.Skipped) → skippedOf (skippedFrom f) ≡ f
+skipped-seen R.none = refl
+skipped-seen (R.event t c) = refl
+
+-- What is told of a run is the same, once it is held.
+pub counts-seen : (a : R.Counts) → countsOf (countsFrom a) ≡ a
+counts-seen a = rw (skipped-seen (a .first))

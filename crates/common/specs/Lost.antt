@@ -2,23 +2,23 @@
 use mathlib.Core.Bool.{cond}
 use mathlib.Core.List.{List, [], _∷_}
 use lib.Dec.{eqb}
-use Rattle.model.specs.Events.{Event, Act, skip, bad, report, loss, slot, number, synAct}
+use Rattle.model.specs.Events.{Event, Act, skip, bad, report, loss, slot, number, ofType, synAct}
 use Rattle.model.specs.Reader.{Mode, following, dropped, stale}
 
 -- What an event asks, as far as a reader that lost track hears it: type 0 alone.
 abbrev pub heard : Event → Act
-heard e = cond (eqb (e .type) 0) (synAct (e .code)) skip
+heard e = cond (eqb (e .type) 0) (synAct (e .code)) (skip ofType (e .type) (e .code))
 
 -- The mode after an act that finds it lost.
 abbrev pub onLost : Mode → Act → Mode
 onLost following a = following
-onLost dropped skip = dropped
+onLost dropped (skip w t c) = dropped
 onLost dropped bad = dropped
 onLost dropped report = stale
 onLost dropped loss = dropped
 onLost dropped (slot k) = dropped
 onLost dropped (number i v) = dropped
-onLost stale skip = stale
+onLost stale (skip w t c) = stale
 onLost stale bad = stale
 onLost stale report = stale
 onLost stale loss = dropped

@@ -7,6 +7,8 @@ use Rattle.common.specs.declared.Verdict.{Verdict}
 use Rattle.common.specs.declared.Verdict.the-variants as W
 use Rattle.common.specs.declared.Mode.{Mode}
 use Rattle.common.specs.declared.Mode.the-variants.{Following, Dropped, Stale}
+use Rattle.common.specs.declared.FirstSkipped.{FirstSkipped}
+use Rattle.common.specs.declared.FirstSkipped.the-variants.{None, Event}
 use Rattle.common.specs.declared.Counts.{Counts}
 
 -- ---- numbers
@@ -60,10 +62,20 @@ modeFrom R.following = Following
 modeFrom R.dropped = Dropped
 modeFrom R.stale = Stale
 
--- The four counts.
+-- The first event skipped.
+abbrev pub skippedOf : FirstSkipped → R.Skipped
+skippedOf None = R.none
+skippedOf (Event t c) = R.event t c
+
+-- And back.
+abbrev pub skippedFrom : R.Skipped → FirstSkipped
+skippedFrom R.none = None
+skippedFrom (R.event t c) = Event t c
+
+-- The five counts and the first event skipped.
 abbrev pub countsOf : Counts → R.Counts
-countsOf c = record { shown = c .shown; skipped = c .skipped; bad = c .bad; ignored = c .ignored }
+countsOf c = record { shown = c .shown; types = c .types; codes = c .codes; bad = c .bad; ignored = c .ignored; first = skippedOf (c .first) }
 
 -- And back.
 abbrev pub countsFrom : R.Counts → Counts
-countsFrom c = record { shown = c .shown; skipped = c .skipped; bad = c .bad; ignored = c .ignored }
+countsFrom c = record { shown = c .shown; types = c .types; codes = c .codes; bad = c .bad; ignored = c .ignored; first = skippedFrom (c .first) }

@@ -6,9 +6,10 @@ ghost use lib.ListN.{length};
 ghost use Rattle.model.specs.Numbers.{eqZ, between as betweenN, betweenZ};
 ghost use Rattle.model.specs.Panel.{idField};
 ghost use Rattle.model.specs.Table.{fits};
+ghost use Rattle.model.specs.Reader.{event, earlier as earlierOf};
 ghost use Rattle.model.specs.Records.{eventsFrom};
 ghost use Rattle.records.specs.Seen.{eventOf};
-ghost use Rattle.common.specs.Seen.{natural, verdictNumber, modeOf};
+ghost use Rattle.common.specs.Seen.{natural, verdictNumber, modeOf, skippedOf};
 ghost use Rattle.common.specs.Lost.{heard, onLost, lastMode as modeAfter};
 
 // A slot number and a tracking id are kinds of number that must not be mixable: a lifted id taken for a slot would move another finger.
@@ -105,12 +106,30 @@ pub enum Mode {
     Stale,
 }
 
-// A count is as wide as a slice's length, so it fits whatever comes.
+// The first event that a run skipped, by its type and code.
+pub enum FirstSkipped {
+    None,
+    Event(u16, u16),
+}
+
+// A count is as wide as a slice's length, so it fits whatever comes. Skipped events are counted by what is unknown of them.
 pub struct Counts {
     pub shown: usize,
-    pub skipped: usize,
+    pub types: usize,
+    pub codes: usize,
     pub bad: usize,
     pub ignored: usize,
+    pub first: FirstSkipped,
+}
+
+// What an event adds to the first one skipped: nothing, where there is one already.
+pub fn earlier(first: FirstSkipped, kind: u16, code: u16) -> FirstSkipped
+    ensures { λ r. ⌜ skippedOf r ≡ earlierOf (skippedOf first) (event kind code) ⌝ }
+{
+    match first {
+        FirstSkipped::None => FirstSkipped::Event(kind, code),
+        FirstSkipped::Event(k, c) => FirstSkipped::Event(k, c),
+    }
 }
 
 // The mode after a record that finds it not following.

@@ -46,13 +46,13 @@ onward-end p r a s n k l =
 
 lost-act : (t : Table) (c : ℕ) (m : Mode) (x : Act) → Lost m → step (settledAt t c m) x ≡ settledAt t c (onLost m x)
 lost-act t c following x l = absurd l
-lost-act t c dropped skip l = refl
+lost-act t c dropped (skip w u k) l = refl
 lost-act t c dropped bad l = refl
 lost-act t c dropped report l = refl
 lost-act t c dropped loss l = refl
 lost-act t c dropped (slot k) l = refl
 lost-act t c dropped (number i v) l = refl
-lost-act t c stale skip l = refl
+lost-act t c stale (skip w u k) l = refl
 lost-act t c stale bad l = refl
 lost-act t c stale report l = refl
 lost-act t c stale loss l = refl

@@ -1,4 +1,4 @@
--- A turn of the reader's loop, as the model sees it: one law for each arm, over the loop's locals. Cited by the proofs of `follow` and `kept`. Assumes nothing.
+-- A turn of the reader's loop, as the model sees it: one law for each arm, over the loop's locals. Cited by the proof of `follow` and by the reader. Assumes nothing.
 use mathlib.Core.Path.{_≡_, refl, sym, ap, _∙_, subst}
 use mathlib.Core.Bool.{Bool, true, false, false≢true}
 use mathlib.Core.List.{List, [], _∷_}
@@ -15,6 +15,7 @@ use Rattle.model.specs.Events.{classify}
 use Rattle.model.specs.Records.{eventAt, eventsFrom}
 use Rattle.model.specs.Reader as R
 use Rattle.model.specs.Reader.{Lost, settledAt}
+use Rattle.model.proofs.Counts.{earlier-none}
 use Rattle.model.proofs.ReaderSteady.{Fit, fit}
 use Rattle.panel.specs.Seen.{slotOf, tableOf, fieldsOf, panelSeen, blank, unusedAll, sameFrom}
 use Rattle.panel.specs.declared.Slot.{Slot}
@@ -26,20 +27,21 @@ use Rattle.common.specs.declared.Counts.{Counts}
 use Rattle.common.specs.Seen.{countsFrom}
 use Rattle.follow.specs.Seen.{readerOf}
 use Rattle.follow.specs.declared.Ended.{Ended}
-use Rattle.follow.specs.Runs.{onward, counted, endingAt, endedFrom, lostAt}
+use Rattle.follow.specs.Runs.{onward, counted, endedFrom, lostAt}
 use Rattle.follow.proofs.Runs.{onward-next, onward-end, lost-onward}
 
 -- ---- the ends
 
 -- A run that lost track, as the code answers it and as the model goes on.
-pub lost-ended : (p : Panel) (sh : List Slot) (c : ℕ) (m : R.Mode) (f g d : ℕ) (es : List E.Event) → Lost m
-    → lostAt sh (record { 0 = c }) m (counted f g d) es ≡ endedFrom (onward p (settledAt (tableOf sh) c m) (counted f g d) es)
-lost-ended p sh c m f g d es l =
-    let p1 : f + 0 ≡ f = omega arith in
-    let p2 : g + 0 ≡ g = omega arith in
-    let p3 : d + 0 ≡ d = omega arith in
-    let p4 : 0 + length es ≡ length es = omega arith in
-    sym (ap endedFrom (lost-onward p (tableOf sh) c m (counted f g d) es l) ∙ rw (table-back sh, p1, p2, p3, p4))
+pub lost-ended : (p : Panel) (sh : List Slot) (c : ℕ) (m : R.Mode) (a : R.Counts) (es : List E.Event) → Lost m → a .ignored ≡ 0
+    → lostAt sh (record { 0 = c }) m a es ≡ endedFrom (onward p (settledAt (tableOf sh) c m) a es)
+lost-ended p sh c m a es l z =
+    let p1 : a .shown + 0 ≡ a .shown = omega arith in
+    let p2 : a .types + 0 ≡ a .types = omega arith in
+    let p3 : a .codes + 0 ≡ a .codes = omega arith in
+    let p4 : a .bad + 0 ≡ a .bad = omega arith in
+    let p5 : a .ignored + length es ≡ length es = omega arith in
+    sym (ap endedFrom (lost-onward p (tableOf sh) c m a es l) ∙ rw (table-back sh, p1, p2, p3, p4, p5, earlier-none (a .first)))
 
 -- A slot that an event selects is one of the panel's.
 pub selected : (u : Setup) (e : E.Event) (j : ℕ) → classify (panelSeen u) e ≡ E.slot j → j < u .n
@@ -87,8 +89,9 @@ module _ (n : ℕ) (w : Bool) (t : List Slot) (p : Pending n w t) (c : ℕ) (x :
 
 -- ---- a turn of the loop
 
-abbrev pub sofar : ℕ → ℕ → R.Counts
-sofar a b = counted a b 0
+-- The counts of a run that follows: what was shown, and what was skipped.
+abbrev pub sofar : ℕ → ℕ → ℕ → R.Skipped → R.Counts
+sofar a t c f = counted a t c 0 f
 
 -- Where a turn stands: the call's setup and bytes, the record that it reads, and the loop's locals before it.
 pub record Place : Type 0 where
@@ -101,11 +104,16 @@ pub record Place : Type 0 where
   pub pending : List Slot
   pub current : ℕ
   pub frames : ℕ
-  pub skipped : ℕ
+  pub types : ℕ
+  pub codes : ℕ
+  pub first : R.Skipped
 
 module _ (w : Place) where
   abbrev before : R.Reader
   before = readerOf (w .shown) (w .pending) (w .current) R.following
+
+  abbrev so : R.Counts
+  so = sofar (w .frames) (w .types) (w .codes) (w .first)
 
   -- What the record asks.
   abbrev pub asks : E.Act
@@ -117,12 +125,12 @@ module _ (w : Place) where
 
   -- What is left of the run is what is left after the turn, with this reader and these counts.
   abbrev Goes : R.Reader → R.Counts → Type 0
-  Goes r t = onward (panelSeen (w .setup)) before (sofar (w .frames) (w .skipped)) (from (w .k)) ≡ onward (panelSeen (w .setup)) r t (from (w .k + 1))
+  Goes r t = onward (panelSeen (w .setup)) before so (from (w .k)) ≡ onward (panelSeen (w .setup)) r t (from (w .k + 1))
 
-  turn : (x : E.Act) → asks ≡ x → Goes (R.stepFollowing before x) (R.plus (sofar (w .frames) (w .skipped)) (R.tallyFollowing before x))
+  turn : (x : E.Act) → asks ≡ x → Goes (R.stepFollowing before x) (R.plus so (R.tallyFollowing before x))
   turn x e =
-      onward-next (panelSeen (w .setup)) before (sofar (w .frames) (w .skipped)) (w .bytes) (w .count) (w .k) (w .inside)
-      ∙ ap (λ y. onward (panelSeen (w .setup)) (R.stepFollowing before y) (R.plus (sofar (w .frames) (w .skipped)) (R.tallyFollowing before y)) (from (w .k + 1))) e
+      onward-next (panelSeen (w .setup)) before so (w .bytes) (w .count) (w .k) (w .inside)
+      ∙ ap (λ y. onward (panelSeen (w .setup)) (R.stepFollowing before y) (R.plus so (R.tallyFollowing before y)) (from (w .k + 1))) e
 
   with-counts : (r : R.Reader) (t v : R.Counts) → Goes r t → t ≡ v → Goes r v
   with-counts r t v p e = p ∙ ap (λ z. onward (panelSeen (w .setup)) r z (from (w .k + 1))) e
@@ -130,60 +138,62 @@ module _ (w : Place) where
   frames+0 : w .frames + 0 ≡ w .frames
   frames+0 = omega arith
 
-  skipped+0 : w .skipped + 0 ≡ w .skipped
-  skipped+0 = omega arith
+  types+0 : w .types + 0 ≡ w .types
+  types+0 = omega arith
 
-  same-counts : R.plus (sofar (w .frames) (w .skipped)) R.nothing ≡ sofar (w .frames) (w .skipped)
-  same-counts = rw (frames+0, skipped+0)
+  codes+0 : w .codes + 0 ≡ w .codes
+  codes+0 = omega arith
 
-  one-bad : R.plus (sofar (w .frames) (w .skipped)) R.oneBad ≡ counted (w .frames) (w .skipped) 1
-  one-bad = rw (frames+0, skipped+0)
+  same-counts : R.plus so R.nothing ≡ so
+  same-counts = rw (frames+0, types+0, codes+0, earlier-none (w .first))
 
-  pub skips : asks ≡ E.skip → Goes before (sofar (w .frames) (w .skipped + 1))
-  skips e = with-counts before _ _ (turn E.skip e) (rw frames+0)
+  one-bad : R.plus so R.oneBad ≡ counted (w .frames) (w .types) (w .codes) 1 (w .first)
+  one-bad = rw (frames+0, types+0, codes+0, earlier-none (w .first))
 
-  pub selects : (j : ℕ) → asks ≡ E.slot j → Goes (readerOf (w .shown) (w .pending) j R.following) (sofar (w .frames) (w .skipped))
+  pub skips-type : (t c : ℕ) → asks ≡ E.skip E.ofType t c
+      → Goes before (sofar (w .frames) (w .types + 1) (w .codes) (R.earlier (w .first) (R.event t c)))
+  skips-type t c e = with-counts before _ _ (turn (E.skip E.ofType t c) e) (rw (frames+0, codes+0))
+
+  pub skips-code : (t c : ℕ) → asks ≡ E.skip E.ofCode t c
+      → Goes before (sofar (w .frames) (w .types) (w .codes + 1) (R.earlier (w .first) (R.event t c)))
+  skips-code t c e = with-counts before _ _ (turn (E.skip E.ofCode t c) e) (rw (frames+0, types+0))
+
+  pub selects : (j : ℕ) → asks ≡ E.slot j → Goes (readerOf (w .shown) (w .pending) j R.following) so
   selects j e = with-counts _ _ _ (turn (E.slot j) e) same-counts
 
   pub shows : asks ≡ E.report → T.idsDiffer (tableOf (w .pending)) ≡ true
-      → Goes (readerOf (w .pending) (w .pending) (w .current) R.following) (sofar (w .frames + 1) (w .skipped))
-  shows e d = with-counts _ _ _ (rw d at (turn E.report e)) (rw skipped+0)
+      → Goes (readerOf (w .pending) (w .pending) (w .current) R.following) (sofar (w .frames + 1) (w .types) (w .codes) (w .first))
+  shows e d = with-counts _ _ _ (rw d at (turn E.report e)) (rw (types+0, codes+0, earlier-none (w .first)))
 
   pub repeats : asks ≡ E.report → T.idsDiffer (tableOf (w .pending)) ≡ false
-      → Goes (settledAt (tableOf (w .shown)) (w .current) R.stale) (counted (w .frames) (w .skipped) 1)
+      → Goes (settledAt (tableOf (w .shown)) (w .current) R.stale) (counted (w .frames) (w .types) (w .codes) 1 (w .first))
   repeats e d = with-counts _ _ _ (rw d at (turn E.report e)) one-bad
 
-  pub drops : asks ≡ E.loss → Goes (settledAt (tableOf (w .shown)) (w .current) R.dropped) (sofar (w .frames) (w .skipped))
+  pub drops : asks ≡ E.loss → Goes (settledAt (tableOf (w .shown)) (w .current) R.dropped) so
   drops e = with-counts _ _ _ (turn E.loss e) same-counts
 
-  pub spoils : asks ≡ E.bad → Goes (settledAt (tableOf (w .shown)) (w .current) R.dropped) (counted (w .frames) (w .skipped) 1)
+  pub spoils : asks ≡ E.bad → Goes (settledAt (tableOf (w .shown)) (w .current) R.dropped) (counted (w .frames) (w .types) (w .codes) 1 (w .first))
   spoils e = with-counts _ _ _ (turn E.bad e) one-bad
 
   -- A number, where x is the slot with it.
   pub stores : (i : ℕ) (v : ℤ) (x : Slot) → asks ≡ E.number i v → w .current < length (w .pending) → slotOf x ≡ set (slotOf (getD (w .pending) (w .current) blank)) i v
-      → Goes (readerOf (w .shown) (set (w .pending) (w .current) x) (w .current) R.following) (sofar (w .frames) (w .skipped))
+      → Goes (readerOf (w .shown) (set (w .pending) (w .current) x) (w .current) R.following) so
   stores i v x e h q =
       let stored = onSlot-set (λ z. set z i v) (w .pending) (w .current) x h q in
       with-counts _ _ _
-      (turn (E.number i v) e ∙ ap (λ p. onward (panelSeen (w .setup)) (R.follow (tableOf (w .shown)) p (w .current)) (R.plus (sofar (w .frames) (w .skipped)) R.nothing) (from (w .k + 1))) stored)
+      (turn (E.number i v) e ∙ ap (λ p. onward (panelSeen (w .setup)) (R.follow (tableOf (w .shown)) p (w .current)) (R.plus so R.nothing) (from (w .k + 1))) stored)
       same-counts
 
   -- The run's end, where track is lost in this turn.
-  pub loses : (m : R.Mode) (bad : ℕ) → Lost m → Goes (settledAt (tableOf (w .shown)) (w .current) m) (counted (w .frames) (w .skipped) bad)
-      → lostAt (w .shown) (record { 0 = w .current }) m (counted (w .frames) (w .skipped) bad) (from (w .k + 1))
-      ≡ endedFrom (onward (panelSeen (w .setup)) before (sofar (w .frames) (w .skipped)) (from (w .k)))
-  loses m bad l g = lost-ended (panelSeen (w .setup)) (w .shown) (w .current) m (w .frames) (w .skipped) bad (from (w .k + 1)) l ∙ ap endedFrom (sym g)
+  pub loses : (m : R.Mode) (bad : ℕ) → Lost m → Goes (settledAt (tableOf (w .shown)) (w .current) m) (counted (w .frames) (w .types) (w .codes) bad (w .first))
+      → lostAt (w .shown) (record { 0 = w .current }) m (counted (w .frames) (w .types) (w .codes) bad (w .first)) (from (w .k + 1))
+      ≡ endedFrom (onward (panelSeen (w .setup)) before so (from (w .k)))
+  loses m bad l g = lost-ended (panelSeen (w .setup)) (w .shown) (w .current) m (counted (w .frames) (w .types) (w .codes) bad (w .first)) (from (w .k + 1)) l refl ∙ ap endedFrom (sym g)
 
 -- the loop's end
-pub ends : (u : Setup) (s : List ℕ) (n k : ℕ) (sh pe : List Slot) (c a b : ℕ) → n ≤ k
-    → endedFrom (endingAt (readerOf sh pe c R.following) (sofar a b))
-    ≡ endedFrom (onward (panelSeen u) (readerOf sh pe c R.following) (sofar a b) (eventsFrom (n - k) s (8 * k)))
-ends u s n k sh pe c a b h = sym (ap endedFrom (onward-end (panelSeen u) (readerOf sh pe c R.following) (sofar a b) s n k h))
-
 abbrev pub keptAt : List Slot → List Slot → SlotNumber → Counts → Ended
 keptAt s p c a = record { shown = s; pending = p; current = c; mode = Following; counts = a }
 
-pub kept-ended : (sh pe : List Slot) (c a b : ℕ)
-    → keptAt sh pe (record { 0 = c }) (countsFrom (sofar a b))
-    ≡ endedFrom (endingAt (readerOf sh pe c R.following) (sofar a b))
-kept-ended sh pe c a b = rw (table-back sh, table-back pe)
+pub ends : (u : Setup) (s : List ℕ) (n k : ℕ) (sh pe : List Slot) (c : ℕ) (a : R.Counts) → n ≤ k
+    → keptAt sh pe (record { 0 = c }) (countsFrom a) ≡ endedFrom (onward (panelSeen u) (readerOf sh pe c R.following) a (eventsFrom (n - k) s (8 * k)))
+ends u s n k sh pe c a h = sym (ap endedFrom (onward-end (panelSeen u) (readerOf sh pe c R.following) a s n k h) ∙ rw (table-back sh, table-back pe))

@@ -4,9 +4,9 @@ use Prim.Native.Nat.{ℕ}
 use lib.ListN.{length}
 use Rattle.model.specs.Panel.{Panel}
 use Rattle.model.specs.Events.{Event, classify}
-use Rattle.model.specs.Reader.{Mode, Reader, read, Counts, plus, tallies, Run}
+use Rattle.model.specs.Reader.{Mode, Reader, read, Skipped, Counts, plus, tallies, Run}
 use Rattle.common.specs.declared.SlotNumber.{SlotNumber}
-use Rattle.common.specs.Seen.{modeFrom, countsFrom}
+use Rattle.common.specs.Seen.{modeFrom, skippedFrom, countsFrom}
 use Rattle.common.specs.Lost.{lastMode}
 use Rattle.panel.specs.Seen.{tableFrom}
 use Rattle.panel.specs.declared.Slot.{Slot}
@@ -16,9 +16,9 @@ use Rattle.follow.specs.declared.Ended.{Ended}
 unfoldable pub onward : Panel → Reader → Counts → List Event → Run
 onward p r a es = record { reader = read p r es; counts = plus a (tallies r (map (classify p) es)) }
 
--- Three counts, and none ignored.
-abbrev pub counted : ℕ → ℕ → ℕ → Counts
-counted a b d = record { shown = a; skipped = b; bad = d; ignored = 0 }
+-- Four counts and the first event skipped, and none ignored.
+abbrev pub counted : ℕ → ℕ → ℕ → ℕ → Skipped → Counts
+counted a t c d f = record { shown = a; types = t; codes = c; bad = d; ignored = 0; first = f }
 
 -- A run that is over.
 abbrev pub endingAt : Reader → Counts → Run
@@ -41,5 +41,5 @@ lostAt t c m a es = record {
   pending = t;
   current = c;
   mode = modeFrom (lastMode m es);
-  counts = record { shown = a .shown; skipped = a .skipped; bad = a .bad; ignored = length es };
+  counts = record { shown = a .shown; types = a .types; codes = a .codes; bad = a .bad; ignored = length es; first = skippedFrom (a .first) };
 }

@@ -6,12 +6,13 @@ ghost use lib.ListN.{length};
 ghost use Rattle.model.specs.Panel.{base, setupGood};
 ghost use Rattle.model.specs.Records.{eventsFrom, eventsOf};
 ghost use Rattle.model.specs.Reader.{following, nothing};
-ghost use Rattle.common.specs.Seen.{modeOf, countsOf, countsFrom};
+ghost use Rattle.common.specs.Seen.{modeOf, skippedOf, countsOf, countsFrom};
 ghost use Rattle.panel.specs.Seen.{setupOf, panelSeen, unusedAll, sameFrom};
 ghost use Rattle.follow.specs.Seen.{readerOf};
-ghost use Rattle.follow.specs.Runs.{onward, counted as countsSoFar, endingAt, endedFrom, lostAt};
+ghost use Rattle.follow.specs.Runs.{onward, counted as countsSoFar, endedFrom, lostAt};
 use acts::Act;
 use common::Counts;
+use common::FirstSkipped;
 use common::Mode;
 use common::SlotNumber;
 use panel::RECORDS;
@@ -41,6 +42,7 @@ pub fn lost(
 {
     let count = bytes.len() / 8;
     let mode = common::last_mode(m, bytes, k);
+    let first = before.first;
     Ended {
         shown,
         pending: shown,
@@ -48,40 +50,31 @@ pub fn lost(
         mode,
         counts: Counts {
             shown: before.shown,
-            skipped: before.skipped,
+            types: before.types,
+            codes: before.codes,
             bad: before.bad,
             ignored: count - k,
+            first,
         },
     }
 }
 
-fn counted(shown: usize, skipped: usize, bad: usize) -> Counts
-    ensures { λ r. ⌜ r ≡ countsFrom (countsSoFar shown skipped bad) ⌝ }
+fn counted(
+    shown: usize,
+    types: usize,
+    codes: usize,
+    bad: usize,
+    first: FirstSkipped,
+) -> Counts
+    ensures { λ r. ⌜ r ≡ countsFrom (countsSoFar shown types codes bad (skippedOf first)) ⌝ }
 {
     Counts {
         shown,
-        skipped,
+        types,
+        codes,
         bad,
         ignored: 0,
-    }
-}
-
-// The end of a run that never lost track.
-fn kept(
-    shown: [Slot; RECORDS],
-    pending: [Slot; RECORDS],
-    current: SlotNumber,
-    frames: usize,
-    skipped: usize,
-) -> Ended
-    ensures { λ r. ⌜ r ≡ endedFrom (endingAt (readerOf shown pending (current .0) following) (countsSoFar frames skipped 0)) ⌝ }
-{
-    Ended {
-        shown,
-        pending,
-        current,
-        mode: Mode::Following,
-        counts: counted(frames, skipped, 0),
+        first,
     }
 }
 
@@ -103,24 +96,32 @@ pub fn follow(
     let mut written = true;
     let mut current = current0.0;
     let mut frames: usize = 0;
-    let mut skipped: usize = 0;
+    let mut types: usize = 0;
+    let mut codes: usize = 0;
+    let mut first = FirstSkipped::None;
     let mut k: usize = 0;
     while k < count {
         let e = records::record_at(bytes, 8 * k);
         let a = acts::act_of(setup, e);
         match a {
-            Act::Skip => {
-                skipped += 1;
+            Act::UnknownType(t, c) => {
+                first = common::earlier(first, t, c);
+                types += 1;
+                k += 1;
+            }
+            Act::UnknownCode(t, c) => {
+                first = common::earlier(first, t, c);
+                codes += 1;
                 k += 1;
             }
             Act::Bad => {
-                let c = counted(frames, skipped, 1);
+                let c = counted(frames, types, codes, 1, first);
                 return lost(shown, SlotNumber(current), Mode::Dropped, bytes, k + 1, c);
             }
             Act::Report => {
                 if written {
                     if !panel::ids_differ(setup.n, pending) {
-                        let c = counted(frames, skipped, 1);
+                        let c = counted(frames, types, codes, 1, first);
                         return lost(shown, SlotNumber(current), Mode::Stale, bytes, k + 1, c);
                     }
                     written = false;
@@ -130,7 +131,7 @@ pub fn follow(
                 k += 1;
             }
             Act::Loss => {
-                let c = counted(frames, skipped, 0);
+                let c = counted(frames, types, codes, 0, first);
                 return lost(shown, SlotNumber(current), Mode::Dropped, bytes, k + 1, c);
             }
             Act::Select(s) => {
@@ -162,6 +163,11 @@ pub fn follow(
             }
         }
     }
-    let last = SlotNumber(current);
-    kept(shown, pending, last, frames, skipped)
+    Ended {
+        shown,
+        pending,
+        current: SlotNumber(current),
+        mode: Mode::Following,
+        counts: counted(frames, types, codes, 0, first),
+    }
 }

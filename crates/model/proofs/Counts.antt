@@ -9,7 +9,7 @@ earlier-assoc : (a b c : Skipped) → earlier (earlier a b) c ≡ earlier a (ear
 earlier-assoc none b c = refl
 earlier-assoc (event t k) b c = refl
 
-earlier-none : (a : Skipped) → earlier a none ≡ a
+pub earlier-none : (a : Skipped) → earlier a none ≡ a
 earlier-none none = refl
 earlier-none (event t k) = refl
 
