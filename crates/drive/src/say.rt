@@ -1,5 +1,6 @@
 // States and answers as runs of numbers on the page, in the order that the script's lines have them, each number after a blank.
 use common::Counts;
+use common::FirstSkipped;
 use common::Mode;
 use common::Verdict;
 use panel::RECORDS;
@@ -69,11 +70,24 @@ pub fn pod_state(page: &mut [u8], out: Out, s: PodState) -> Out {
     words::say_bytes(page, a, &bytes)
 }
 
+fn first(page: &mut [u8], out: Out, f: FirstSkipped) -> Out {
+    match f {
+        FirstSkipped::None => stream::say(page, out, b" none"),
+        FirstSkipped::Event(kind, code) => {
+            let a = number(page, out, kind as usize);
+            number(page, a, code as usize)
+        }
+    }
+}
+
 pub fn counts(page: &mut [u8], out: Out, c: Counts) -> Out {
     let a = number(page, out, c.shown);
-    let b = number(page, a, c.skipped);
-    let d = number(page, b, c.bad);
-    number(page, d, c.ignored)
+    let b = number(page, a, c.types);
+    let d = number(page, b, c.codes);
+    let e = number(page, d, c.bad);
+    let f = number(page, e, c.ignored);
+    let skipped = c.first;
+    first(page, f, skipped)
 }
 
 fn contact(page: &mut [u8], out: Out, s: Slot) -> Out {

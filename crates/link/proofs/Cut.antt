@@ -21,11 +21,16 @@ use Rattle.panel.proofs.Setups.{holds}
 use Rattle.records.specs.declared.Event.{Event}
 use Rattle.records.specs.Seen.{eventOf}
 use Rattle.records.proofs.Over.{record-length}
+use Rattle.common.proofs.Back.{counts-seen}
 use Rattle.reader.specs.declared.ReaderState.{ReaderState}
 use Rattle.reader.specs.declared.RunAnswer.{RunAnswer}
 use Rattle.reader.specs.States.{seen, ranFrom}
 use Rattle.reader.proofs.Promises.{run-state, read-one-state}
 use Rattle.link.specs.Promises.{Ran, ReadOne, Sized, bytesOf, joined}
+
+-- Two answers of the model that are joined and then held are joined as they are held.
+held-joined : (a b : C.Ran) → ranFrom (C.joined a b) ≡ joined (ranFrom a) (ranFrom b)
+held-joined a b = rw (counts-seen (a .counts), counts-seen (b .counts))
 
 -- Of any state, and two strings of whole records: the answer to both at once is the two answers joined, the counts added up.
 pub cut : (s : ReaderState) (xs ys : List ℕ) (a b q : RunAnswer) → length xs % 8 ≡ 0 → length ys % 8 ≡ 0
@@ -35,6 +40,7 @@ cut s xs ys a b q h k ea eb e =
     e
     ∙ ap ranFrom (run-cut base (seen s) xs ys h k)
     ∙ ap (λ (x : S.ReaderState). ranFrom (C.joined first (runCall base x ys))) (sym (run-state s xs a ea))
+    ∙ held-joined first (runCall base (seen (a .state)) ys)
     ∙ sym (ap₂ joined ea eb)
 
 says : (e : Event) → Sized e → eventAt (bytesOf e) 0 ≡ eventOf e

@@ -8,7 +8,7 @@ use lib.IntN.{ℤ}
 use lib.ListN.{length}
 use Rattle.model.specs.Panel.{base}
 use Rattle.model.specs.Records.{recordBytes}
-use Rattle.model.specs.Reader.{Lost}
+use Rattle.model.specs.Reader.{Lost, plus}
 use Rattle.model.specs.States.{writerGood, readerGood}
 use Rattle.model.specs.Calls.{freshWriterCall, freshReaderCall, writeCall, writeBuffer, runCall, stepCall, loadCall, askCall}
 use Rattle.panel.specs.declared.Setup.{Setup}
@@ -20,7 +20,7 @@ use Rattle.writer.specs.declared.FreshWriter.{FreshWriter}
 use Rattle.writer.specs.declared.Written.{Written}
 use Rattle.writer.specs.Seen as W
 use Rattle.common.specs.declared.Mode.the-variants.{Following}
-use Rattle.common.specs.Seen.{modeOf}
+use Rattle.common.specs.Seen.{modeOf, countsOf, countsFrom}
 use Rattle.reader.specs.declared.ReaderState.{ReaderState}
 use Rattle.common.specs.declared.Counts.{Counts}
 use Rattle.reader.specs.declared.RunAnswer.{RunAnswer}
@@ -90,9 +90,9 @@ bytesOf e = recordBytes (e .kind) (e .code) (e .value)
 abbrev pub pupilOf : WriterState → ReaderState
 pupilOf s = record { setup = s .setup; shown = s .table; pending = s .table; current = s .current; mode = Following }
 
--- Two counts added up.
+-- Two counts added up, the first one's first event skipped.
 abbrev pub added : Counts → Counts → Counts
-added a b = record { shown = a .shown + b .shown; skipped = a .skipped + b .skipped; bad = a .bad + b .bad; ignored = a .ignored + b .ignored }
+added a b = countsFrom (plus (countsOf a) (countsOf b))
 
 -- Two runs, one after the other, as one answer: the later verdict and state, and the counts added up.
 abbrev pub joined : RunAnswer → RunAnswer → RunAnswer

@@ -13,7 +13,7 @@ use Rattle.model.specs.Table.{fits, idsDiffer}
 use Rattle.model.specs.Events.{Event, Act, skip, bad, report, loss, slot, number, Unknown, ofType, ofCode, later, numberAct, slotAct, synAct, absAct, classify}
 use Rattle.model.specs.Reader as R
 use Rattle.model.specs.Reader.{Mode, following, dropped, stale, Reader, step, steps, read, Skipped, event, earlier, Counts, nothing, oneShown, oneBad, plus, tally, tallies}
-use Rattle.model.specs.Skips.{knownType, knownCode, typeUnknown, codeUnknown, skippedBy, oneIf, met, FirstSkipped, plain}
+use Rattle.model.specs.Skips.{knownType, knownCode, typeUnknown, codeUnknown, skippedBy, oneIf, met, FirstSkipped, SkipsTold, plain}
 
 -- ---- an event and what it asks
 
@@ -165,17 +165,17 @@ abbrev pub countsOf : Panel → Reader → List Event → Counts
 countsOf p r es = tallies r (map (classify p) es)
 
 -- The first count is of the events of an unknown type that find the reader following.
-pub types-are : (p : Panel) (r : Reader) (es : List Event) → countsOf p r es .types ≡ met p typeUnknown r es
+types-are : (p : Panel) (r : Reader) (es : List Event) → countsOf p r es .types ≡ met p typeUnknown r es
 types-are p r [] = refl
 types-are p r (e ∷ es) = ap₂ (λ a b. a + b) (mode-adds p (r .mode) r e .types) (types-are p (step r (classify p e)) es)
 
 -- The second is of those of a known type and an unknown code.
-pub codes-are : (p : Panel) (r : Reader) (es : List Event) → countsOf p r es .codes ≡ met p (codeUnknown p) r es
+codes-are : (p : Panel) (r : Reader) (es : List Event) → countsOf p r es .codes ≡ met p (codeUnknown p) r es
 codes-are p r [] = refl
 codes-are p r (e ∷ es) = ap₂ (λ a b. a + b) (mode-adds p (r .mode) r e .codes) (codes-are p (step r (classify p e)) es)
 
 -- Together they are document 01's count of skipped events.
-pub together : (p : Panel) (r : Reader) (es : List Event) → countsOf p r es .types + countsOf p r es .codes ≡ met p (skippedBy p) r es
+together : (p : Panel) (r : Reader) (es : List Event) → countsOf p r es .types + countsOf p r es .codes ≡ met p (skippedBy p) r es
 together p r [] = refl
 together p r (e ∷ es) =
     let a = tally (r .mode) r (classify p e) in
@@ -227,7 +227,7 @@ isEvent R.none = false
 isEvent (event t c) = true
 
 -- The first skipped is the first event that was skipped while following.
-pub first-is : (p : Panel) (r : Reader) (es : List Event) (t c : ℕ) → countsOf p r es .first ≡ event t c → FirstSkipped p r es t c
+first-is : (p : Panel) (r : Reader) (es : List Event) (t c : ℕ) → countsOf p r es .first ≡ event t c → FirstSkipped p r es t c
 first-is p r [] t c q = absurd (false≢true (ap isEvent q))
 first-is p r (e ∷ es) t c q =
     go (tally (r .mode) r (classify p e) .first) (first-is p (step r (classify p e)) es t c) (mode-named p (r .mode) r e) q
@@ -282,16 +282,16 @@ first-none p r (e ∷ es) q = go (tally (r .mode) r (classify p e) .first) (firs
     go R.none later n g = ap₂ (λ a b. a + b) n (later g)
     go (event u d) later n g = absurd (false≢true (sym (ap isEvent g)))
 
--- There is none exactly where both counts are 0.
-pub record NoneIff (a : Counts) : Type 0 where
-  pub zero : a .first ≡ R.none → a .types + a .codes ≡ 0
-  pub none : a .types + a .codes ≡ 0 → a .first ≡ R.none
-
-pub none-iff : (p : Panel) (r : Reader) (es : List Event) → NoneIff (countsOf p r es)
-none-iff p r es =
+-- All of it of a run.
+pub skips-told : (p : Panel) (r : Reader) (es : List Event) → SkipsTold p r es (countsOf p r es)
+skips-told p r es =
     record {
+      types = types-are p r es;
+      codes = codes-are p r es;
+      together = together p r es;
+      first = first-is p r es;
       zero = λ q. together p r es ∙ first-none p r es q;
-      none = λ z. none-first p r es (sym (together p r es) ∙ z);
+      nothing = λ z. none-first p r es (sym (together p r es) ∙ z);
     }
 
 -- ---- nothing else

@@ -6,7 +6,7 @@ use Prim.Native.Nat.{ℕ, _+_}
 use lib.Dec.{eqb}
 use Rattle.model.specs.Panel.{Panel, slotCode, unlisted, fieldCodes}
 use Rattle.model.specs.Events.{Event, Act, skip, bad, report, loss, slot, number, ofCode, classify}
-use Rattle.model.specs.Reader.{Mode, following, dropped, stale, Reader, step, read}
+use Rattle.model.specs.Reader.{Mode, following, dropped, stale, Reader, step, read, Skipped, none, event, Counts}
 
 -- Types 0 and 3 are known.
 abbrev pub knownType : Event → Bool
@@ -50,6 +50,16 @@ pub record FirstSkipped (p : Panel) (r : Reader) (es : List Event) (t c : ℕ) :
   pub unknown : skippedBy p it ≡ true
   pub follows : read p r before .mode ≡ following
   pub none : met p (skippedBy p) r before ≡ 0
+
+-- What a run's counts say of the events es that a reader r read: the two counts by the events' numbers, together document 01's count of skipped
+-- events; the first skipped is the first of these, and there is none exactly where both counts are 0.
+pub record SkipsTold (p : Panel) (r : Reader) (es : List Event) (a : Counts) : Type 0 where
+  pub types : a .types ≡ met p typeUnknown r es
+  pub codes : a .codes ≡ met p (codeUnknown p) r es
+  pub together : a .types + a .codes ≡ met p (skippedBy p) r es
+  pub first : (t c : ℕ) → a .first ≡ event t c → FirstSkipped p r es t c
+  pub zero : a .first ≡ none → a .types + a .codes ≡ 0
+  pub nothing : a .types + a .codes ≡ 0 → a .first ≡ none
 
 -- An act without the words on why it is skipped.
 abbrev pub plain : Act → Act

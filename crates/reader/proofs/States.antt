@@ -1,5 +1,5 @@
 -- What a well-formed state gives, and a run of it by the mode that it finds. Cited by the proofs of the public functions. Assumes nothing.
-use mathlib.Core.Path.{_≡_, sym, ap, ap₂, _∙_, subst}
+use mathlib.Core.Path.{_≡_, refl, sym, ap, ap₂, _∙_, subst}
 use mathlib.Core.Bool.{true, _&&_}
 use mathlib.Core.List.{List, [], _∷_}
 use Prim.Native.Nat.{ℕ, _-_, _*_, _/_, _<_}
@@ -81,7 +81,7 @@ module _ (s : ReaderState) (bs : List ℕ) where
       let p : tableOf (s .pending) ≡ tableOf (s .shown) = good-settled s g (subst (λ q. Lost (modeOf q)) (sym e) l) in
       let whole = onward-start panel (R.settledAt (tableOf (s .shown)) (s .current .0) (modeOf m)) (eventsOf bs) in
       let state = ap₂ (λ t q. R.run panel (record { shown = tableOf (s .shown); pending = t; current = s .current .0; mode = modeOf q }) (eventsOf bs)) (sym p) (sym e) in
-      rw z (lost-ended panel (s .shown) (s .current .0) (modeOf m) 0 0 0 (eventsOf bs) l ∙ ap endedFrom (whole ∙ state))
+      rw z (lost-ended panel (s .shown) (s .current .0) (modeOf m) R.nothing (eventsOf bs) l refl ∙ ap endedFrom (whole ∙ state))
 
 -- ---- one record, and an image's length
 

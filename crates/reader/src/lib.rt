@@ -15,6 +15,7 @@ ghost use Rattle.records.specs.Seen.{eventOf};
 ghost use Rattle.reader.specs.States.{seen, given, noState, freshFrom, ranFrom, answered, accepted};
 ghost use Rattle.reader.specs.Seen.{loadedFrom, askedFrom, AnswersAs, refusedRun, loadTaken};
 use common::Counts;
+use common::FirstSkipped;
 use common::Mode;
 use common::SlotNumber;
 use common::TrackingId;
@@ -158,9 +159,11 @@ fn none() -> Counts
 {
     Counts {
         shown: 0,
-        skipped: 0,
+        types: 0,
+        codes: 0,
         bad: 0,
         ignored: 0,
+        first: FirstSkipped::None,
     }
 }
 

@@ -49,6 +49,10 @@ struct Reading {
 }
 
 // The counts are for a hint alone, so they may wrap.
+fn skipped_of(c: Counts) -> u64 {
+    std::num::wrapping_add_u64(c.types as u64, c.codes as u64)
+}
+
 fn read_records(r: Reading, bytes: &[u8]) -> Reading {
     let s = r.state;
     let a = reader::run(s, bytes);
@@ -58,7 +62,7 @@ fn read_records(r: Reading, bytes: &[u8]) -> Reading {
     Reading {
         state,
         followed: std::num::wrapping_add_u64(r.followed, followed),
-        skipped: std::num::wrapping_add_u64(r.skipped, counts.skipped as u64),
+        skipped: std::num::wrapping_add_u64(r.skipped, skipped_of(counts)),
         rest: 0,
         again: false,
         failed: false,
