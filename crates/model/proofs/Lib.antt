@@ -1,13 +1,28 @@
 -- The model's laws and theorems, one theme a file. The sheet and what is shown come first: a wrong definition fails there, by computing, before any proof.
 --
--- What is computed: Bench (P1 to P9), AtReport (when the shown table changes), FirstBytes (the pod's 256 first bytes), Instances (document 01's layout).
--- Tools: Bools, Tables, Rows, Counts, Order (the loop over set bits), Layouts.
--- Demand 1, refusals: Exact (each number if and only if its test fails), Calls and Answers (what each call answers), Pod for the pod.
--- Demand 2, reading back: Follow, Codes, ReadsBack, Bytes, Shows (what is counted), Link (in bytes, of the calls).
--- Demand 2, a loss: Lost (what loses track, and that nothing brings it back), Loss (of events), Chain (of calls, until a load).
--- Demand 3, fewest events: Count, Least; Ones and Limits (the changed-slot number, the most events and bytes).
--- Runs that are cut: Cut (of events and bytes), Chain (of calls).
--- Ids: Ids, Tries. Well-formed states stay so: ReaderSteady, WriterSteady, FreshSteady, and Calls of each call.
+-- What is computed
+--   Bench: the definitions give the sheet's rows P1 to P9. Instances: the theorems at document 01's layout, at six numbers and at 32 records.
+--   AtReport: the shown table stays but at a report, which shows what was pending. FirstBytes: what each of 256 first bytes of a pod's report begins.
+-- Tools
+--   Bools: tests that pass or fail, and equal whole numbers. Tables: slots and tables of one size, equal, good, with one slot changed or done.
+--   Rows: a flat run of numbers row by row. Counts: counts add up. Layouts: a good setup's panel has fields that events tell apart and carry.
+--   Order: the slots that a changed-slot number names, taken by its lowest bit, are sent as the model sends them; slot c's bit taken out leaves the others.
+-- Demand 1, refusals
+--   Exact: each refusal's number if and only if its test fails and the earlier ones pass. Answers: each call's answer by the first test that fails.
+--   Calls: all of this and the demands below, said of each call. Pod: the same of the pod's reports.
+-- Demand 2, reading back
+--   Follow: what is sent takes a following reader from the old table to the new one. Codes: its events are classified as they were meant.
+--   ReadsBack: so its events read back. Bytes: records there and back, so its bytes do. Shows: one table is counted, or nothing. Link: said of `write` and `run`.
+-- Demand 2, a loss
+--   Lost: what loses track, and that no event leads back. Loss: of lists of events. Chain: of calls one after another, until a load.
+-- Demand 3, fewest events
+--   Count: how many events a frame has, of the current slot and of the others. Least: no shorter list does it. Ones: the changed-slot number's bits; the most events.
+--   Limits: an answer's changed slots and events, and the most bytes.
+-- Runs that are cut
+--   Cut: of events and of bytes. Chain: of calls.
+-- Ids and well-formed states
+--   Ids: the id given is free, the first such, below 65,536, and keeps live ids apart. Tries: few tries find it, whatever the order of the taken ones.
+--   ReaderSteady, WriterSteady, FreshSteady: events, frames and fresh states keep or are well formed.
 pub mod Bench
 pub mod AtReport
 pub mod Bools

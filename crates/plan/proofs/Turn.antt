@@ -2,11 +2,11 @@
 use mathlib.Core.Path.{_≡_, refl, sym, ap, ap₂, _∙_}
 use mathlib.Core.Bool.{Bool, true, false, cond, _&&_, _||_}
 use mathlib.Core.List.{List, [], _∷_, _++_, append-assoc, map-append}
-use Prim.Native.Nat.{ℕ, zero, suc, _+_, _<_}
+use Prim.Native.Nat.{ℕ, zero, suc, _+_, _-_, _*_, _<_, _≤_}
 use native.Mathlib.Numerals.{add-one}
 use native.Mathlib.Omega.{arith}
 use lib.IntN.{ℤ, pos, negsuc}
-use lib.ListN.{length, take, drop, getD, set}
+use lib.ListN.{length, take, drop, getD, set, take-append-drop}
 use lib.Seq.{take-suc-set, drop-set-lt}
 use lib.Signed.{leZ}
 use Rattle.model.specs.Panel.{perSlot}
@@ -15,12 +15,13 @@ use Rattle.model.specs.Table.{Table, idOf, numbersOf, ids, goodSlot, live}
 use Rattle.model.specs.Records.{bitsOf}
 use Rattle.model.specs.Frame.{numbersFrom, rowsFrom, kindOf, goodRow, goodRows, Fate, none, goesOn, begins, fate, freeId, slotAfter, takenAfter, counterAfter, Planned, after, planned, newTable}
 use Rattle.model.proofs.Bools.{and-left, and-right}
+use Rattle.model.proofs.Rows.{rows-next, rows-none, row-of-four}
 use Rattle.model.proofs.Tries.{Same, planned-same}
 use Rattle.panel.specs.declared.Slot as S
 use Rattle.panel.specs.declared.Setup.{Setup}
 use Rattle.panel.specs.Seen.{slotOf, tableOf, axesOf, blank, sameFrom}
 use Rattle.panel.proofs.Tables.{rest-is}
-use Rattle.plan.specs.Row.{begun, held, stayed, unsigned, plainRow, plainRows}
+use Rattle.plan.specs.Row.{begun, held, stayed, unsigned, plainRow, plainRows, planFrom}
 
 -- ---- a row's numbers
 
@@ -134,7 +135,7 @@ module _ (taken : List ℤ) (k : ℕ) (t : List S.Slot) (s : ℕ) (h : s < lengt
   kept-is = drop-set-lt (s + 1) t s w (omega arith)
 
   -- What is planned from slot s on is that slot, and what is planned after it.
-  pub plan-turn : slotOf w ≡ slotAfter becomes given (slotOf (getD t s blank)) (numbersOf g) → Same (takenAfter becomes given taken) more → counterAfter becomes given k ≡ n
+  plan-turn : slotOf w ≡ slotAfter becomes given (slotOf (getD t s blank)) (numbersOf g) → Same (takenAfter becomes given taken) more → counterAfter becomes given k ≡ n
       → after (tableOf (take s t)) (planned taken k (g ∷ fr) (tableOf (drop s t))) ≡ after (tableOf (take (s + 1) (set t s w))) (planned more n fr (tableOf (drop (s + 1) (set t s w))))
   plan-turn e q r =
       let front = tableOf (take s t) in
@@ -144,6 +145,53 @@ module _ (taken : List ℤ) (k : ℕ) (t : List S.Slot) (s : ℕ) (h : s < lengt
       (planned-same (takenAfter becomes given taken) more (counterAfter becomes given k) fr d q ∙ ap (λ m. planned more m fr d) r)
       ∙ after-after front (slotOf w ∷ []) (planned more n fr d)
       ∙ ap₂ (λ a b. after a (planned more n fr (tableOf b))) (sym made-is) (sym kept-is)
+
+-- ---- the row of slot s, and what is left to plan after it
+
+module _ (frame : List ℤ) (s : ℕ) where
+  abbrev pub number : ℕ → ℤ
+  number i = getD frame (perSlot * s + i) (pos 0)
+
+  abbrev pub kind : ℤ
+  kind = getD frame (perSlot * s) (pos 0)
+
+  abbrev pub row : List ℤ
+  row = kind ∷ three (number 1) (number 2) (number 3)
+
+  module _ (n : ℕ) (l : s < n) where
+    abbrev pub rest : List (List ℤ)
+    rest = rowsFrom perSlot (n - (s + 1)) frame (perSlot * (s + 1))
+
+    rows-are : rowsFrom perSlot (n - s) frame (perSlot * s) ≡ row ∷ rest
+    rows-are = rows-next 4 n s frame l ∙ ap {B = List (List ℤ)} (λ r. r ∷ rest) (row-of-four frame (perSlot * s))
+
+    plain : plainRows (rowsFrom perSlot (n - s) frame (perSlot * s)) ≡ true → (plainRow row && plainRows rest) ≡ true
+    plain e = sym (ap plainRows rows-are) ∙ e
+
+    pub plain-row : plainRows (rowsFrom perSlot (n - s) frame (perSlot * s)) ≡ true → plainRow row ≡ true
+    plain-row e = and-left (plainRow row) (plainRows rest) (plain e)
+
+    pub plain-rest : plainRows (rowsFrom perSlot (n - s) frame (perSlot * s)) ≡ true → plainRows rest ≡ true
+    plain-rest e = and-right (plainRow row) (plainRows rest) (plain e)
+
+    -- Once slot s is w, the ids taken are `more` and the counter is m.
+    pub row-turn : (taken : List ℤ) (k : ℕ) (t : List S.Slot) (h : s < length t) (w : S.Slot) (more : List ℤ) (m : ℕ)
+        → (let f = fate kind (getD t s blank .id .0) in let j = freeId taken k in
+        slotOf w ≡ slotAfter f j (slotOf (getD t s blank)) (three (number 1) (number 2) (number 3))
+        → Same (takenAfter f j taken) more → counterAfter f j k ≡ m
+        → planFrom taken k n frame t s ≡ planFrom more m n frame (set t s w) (s + 1))
+    row-turn taken k t h w more m e same count =
+        ap (λ r. after (tableOf (take s t)) (planned taken k r (tableOf (drop s t)))) rows-are
+        ∙ plan-turn taken k t s h row rest w more m e same count
+
+-- Where no row is left, the table is made.
+pub no-row : (taken : List ℤ) (k n : ℕ) (frame : List ℤ) (t : List S.Slot) (s : ℕ) → n ≤ s → planFrom taken k n frame t s ≡ record { table = tableOf t; counter = k }
+no-row taken k n frame t s h =
+    let z : n - s ≡ 0 = omega arith in
+    let front = tableOf (take s t) in
+    let none : rowsFrom perSlot (n - s) frame (perSlot * s) ≡ [] = ap (λ m. rowsFrom perSlot m frame (perSlot * s)) z ∙ rows-none 4 frame (perSlot * s) in
+    let all = sym (map-append slotOf (take s t) (drop s t)) ∙ ap tableOf (take-append-drop s t) in
+    ap (λ r. after front (planned taken k r (tableOf (drop s t)))) none ∙ ap (λ x. record { table = x; counter = k }) all
 
 -- ---- the records without a row
 
