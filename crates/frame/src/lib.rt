@@ -48,7 +48,6 @@ fn row_ok(setup: Setup, kind: i32, x: i32, y: i32, pressure: i32) -> bool
     numbers_in(setup, x, y, pressure)
 }
 
-// Whether all rows of a frame are good.
 pub fn values_ok(setup: Setup, frame: &[i32]) -> bool
     requires { ⌜ (setupGood base (setupOf setup) ≡ true) × (length (now frame) ≡ perSlot * setup .n) ⌝ }
     ensures { λ r. ⌜ r ≡ valuesGood (panelSeen setup) (now (frame .entry)) ⌝ }

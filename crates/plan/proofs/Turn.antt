@@ -1,4 +1,5 @@
--- One turn of the plan: what a slot becomes, and the table and counter that are left to make. Cited by the proofs here; `good-plain` and `rest-stays` by the writer. Assumes nothing.
+-- One turn of the plan: what a slot becomes, and the table and counter that are left to make.
+-- Cited by the proofs here; `good-plain` and `rest-stays` by the writer. Assumes nothing.
 use mathlib.Core.Path.{_≡_, refl, sym, ap, ap₂, _∙_}
 use mathlib.Core.Bool.{Bool, true, false, cond, _&&_, _||_}
 use mathlib.Core.List.{List, [], _∷_, _++_, append-assoc, map-append}
@@ -13,7 +14,8 @@ use Rattle.model.specs.Panel.{perSlot}
 use Rattle.model.specs.Numbers.{eqZ, betweenZ}
 use Rattle.model.specs.Table.{Table, idOf, numbersOf, ids, goodSlot, live}
 use Rattle.model.specs.Records.{bitsOf}
-use Rattle.model.specs.Frame.{numbersFrom, rowsFrom, kindOf, goodRow, goodRows, Fate, none, goesOn, begins, fate, freeId, slotAfter, takenAfter, counterAfter, Planned, after, planned, newTable}
+use Rattle.model.specs.Frame.{numbersFrom, rowsFrom, kindOf, goodRow, goodRows, Fate, none, goesOn, begins, fate}
+use Rattle.model.specs.Frame.{freeId, slotAfter, takenAfter, counterAfter, Planned, after, planned, newTable}
 use Rattle.model.proofs.Bools.{and-left, and-right}
 use Rattle.model.proofs.Rows.{rows-next, rows-none, row-of-four}
 use Rattle.model.proofs.Tries.{Same, planned-same}
@@ -51,9 +53,10 @@ good-unsigned u x y p g =
 
 row-plain : (u : Setup) (k x y p : ℤ) → goodRow (axesOf u) (k ∷ three x y p) ≡ true → plainRow (k ∷ three x y p) ≡ true
 row-plain u k x y p g =
-    (elim (eqZ k (pos 0)) as (λ b. (b || ((eqZ k (pos 1) || eqZ k (pos 2)) && goodSlot (axesOf u) (three x y p))) ≡ true → (b || unsigned (three x y p)) ≡ true) [
+    let known = eqZ k (pos 1) || eqZ k (pos 2) in
+    (elim (eqZ k (pos 0)) as (λ b. (b || (known && goodSlot (axesOf u) (three x y p))) ≡ true → (b || unsigned (three x y p)) ≡ true) [
       | true ↦ λ e. refl
-      | false ↦ λ e. good-unsigned u x y p (and-right (eqZ k (pos 1) || eqZ k (pos 2)) _ e)
+      | false ↦ λ e. good-unsigned u x y p (and-right known _ e)
     ]) g
 
 -- Rows that are good for a setup are plain.
@@ -61,7 +64,9 @@ pub good-plain : (u : Setup) (n : ℕ) (f : List ℤ) (at : ℕ) → goodRows (a
 unfolding rowsFrom
 good-plain u zero f at g = refl
 good-plain u (suc n) f at g =
-    let e = row-plain u (getD f at (pos 0)) (getD f (at + 1) (pos 0)) (getD f (at + 1 + 1) (pos 0)) (getD f (at + 1 + 1 + 1) (pos 0)) (and-left (goodRow (axesOf u) (numbersFrom perSlot f at)) _ g) in
+    let v : ℕ → ℤ = λ i. getD f i (pos 0) in
+    let first = and-left (goodRow (axesOf u) (numbersFrom perSlot f at)) _ g in
+    let e = row-plain u (v at) (v (at + 1)) (v (at + 1 + 1)) (v (at + 1 + 1 + 1)) first in
     let r = good-plain u n f (at + 4) (and-right (goodRow (axesOf u) (numbersFrom perSlot f at)) _ g) in
     ap₂ (λ a b. a && b) e r
 
@@ -76,13 +81,15 @@ abbrev fateBy : Bool → Bool → Bool → Fate
 fateBy k0 k2 lives = cond k0 none (cond k2 begins (cond lives goesOn begins))
 
 module _ (was : S.Slot) (x y p : ℤ) (j : ℕ) where
-  begun-by : (k0 k2 lives : Bool) → begun (fateBy k0 k2 lives) ≡ true → (k0 || unsigned (three x y p)) ≡ true → slotOf (held (pos j) x y p) ≡ slotAfter (fateBy k0 k2 lives) j (slotOf was) (three x y p)
+  begun-by : (k0 k2 lives : Bool) → begun (fateBy k0 k2 lives) ≡ true → (k0 || unsigned (three x y p)) ≡ true
+      → slotOf (held (pos j) x y p) ≡ slotAfter (fateBy k0 k2 lives) j (slotOf was) (three x y p)
   begun-by true k2 lives e g = let z : _≡_ {A = ℕ} 0 1 = cc in absurd (omega arith)
   begun-by false true lives e g = ap (λ l. pos j ∷ l) (same-three x y p g)
   begun-by false false true e g = let z : _≡_ {A = ℕ} 0 1 = cc in absurd (omega arith)
   begun-by false false false e g = ap (λ l. pos j ∷ l) (same-three x y p g)
 
-  stayed-by : (k0 k2 lives : Bool) → begun (fateBy k0 k2 lives) ≡ false → (k0 || unsigned (three x y p)) ≡ true → slotOf (stayed k0 was x y p) ≡ slotAfter (fateBy k0 k2 lives) j (slotOf was) (three x y p)
+  stayed-by : (k0 k2 lives : Bool) → begun (fateBy k0 k2 lives) ≡ false → (k0 || unsigned (three x y p)) ≡ true
+      → slotOf (stayed k0 was x y p) ≡ slotAfter (fateBy k0 k2 lives) j (slotOf was) (three x y p)
   stayed-by true k2 lives e g = refl
   stayed-by false true lives e g = let z : _≡_ {A = ℕ} 0 1 = cc in absurd (omega arith)
   stayed-by false false true e g = ap (λ l. was .id .0 ∷ l) (same-three x y p g)
@@ -135,8 +142,10 @@ module _ (taken : List ℤ) (k : ℕ) (t : List S.Slot) (s : ℕ) (h : s < lengt
   kept-is = drop-set-lt (s + 1) t s w (omega arith)
 
   -- What is planned from slot s on is that slot, and what is planned after it.
-  plan-turn : slotOf w ≡ slotAfter becomes given (slotOf (getD t s blank)) (numbersOf g) → Same (takenAfter becomes given taken) more → counterAfter becomes given k ≡ n
-      → after (tableOf (take s t)) (planned taken k (g ∷ fr) (tableOf (drop s t))) ≡ after (tableOf (take (s + 1) (set t s w))) (planned more n fr (tableOf (drop (s + 1) (set t s w))))
+  plan-turn : slotOf w ≡ slotAfter becomes given (slotOf (getD t s blank)) (numbersOf g)
+      → Same (takenAfter becomes given taken) more → counterAfter becomes given k ≡ n
+      → after (tableOf (take s t)) (planned taken k (g ∷ fr) (tableOf (drop s t)))
+      ≡ after (tableOf (take (s + 1) (set t s w))) (planned more n fr (tableOf (drop (s + 1) (set t s w))))
   plan-turn e q r =
       let front = tableOf (take s t) in
       let d = tableOf (drop (s + 1) t) in
@@ -185,7 +194,8 @@ module _ (frame : List ℤ) (s : ℕ) where
         ∙ plan-turn taken k t s h row rest w more m e same count
 
 -- Where no row is left, the table is made.
-pub no-row : (taken : List ℤ) (k n : ℕ) (frame : List ℤ) (t : List S.Slot) (s : ℕ) → n ≤ s → planFrom taken k n frame t s ≡ record { table = tableOf t; counter = k }
+pub no-row : (taken : List ℤ) (k n : ℕ) (frame : List ℤ) (t : List S.Slot) (s : ℕ) → n ≤ s
+    → planFrom taken k n frame t s ≡ record { table = tableOf t; counter = k }
 no-row taken k n frame t s h =
     let z : n - s ≡ 0 = omega arith in
     let front = tableOf (take s t) in

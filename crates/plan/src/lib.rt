@@ -81,7 +81,6 @@ fn ids_of(n: usize, t: [Slot; RECORDS]) -> [i32; TAKEN]
     l
 }
 
-// Whether a contact begins in a slot that has this id.
 fn begins(kind: i32, id: TrackingId) -> bool
     ensures { λ r. ⌜ r ≡ begun (fate kind (id .0)) ⌝ }
 {

@@ -32,7 +32,6 @@ fn put_number(b: &mut [u8], c: Change) -> usize
     records::LENGTH
 }
 
-// Two numbers of a slot.
 fn put_two(b: &mut [u8], first: Change, second: Change) -> usize
     requires { ⌜ length (changeBytes first ++ changeBytes second) ≤ length (now b) ⌝ }
     ensures { λ r. ⌜ (r ≡ length (changeBytes first ++ changeBytes second)) × (now (b .exit) ≡ over (changeBytes first ++ changeBytes second) (now (b .entry))) ⌝ }
@@ -42,7 +41,6 @@ fn put_two(b: &mut [u8], first: Change, second: Change) -> usize
     k + n
 }
 
-// The changed numbers of a slot.
 fn put_changes(b: &mut [u8], old: Slot, new: Slot) -> usize
     requires { ⌜ length (bytesSent (changes 0 (slotOf old) (slotOf new))) ≤ length (now b) ⌝ }
     ensures { λ r. ⌜ (r ≡ length (bytesSent (changes 0 (slotOf old) (slotOf new)))) × (now (b .exit) ≡ over (bytesSent (changes 0 (slotOf old) (slotOf new))) (now (b .entry))) ⌝ }
@@ -74,7 +72,7 @@ fn put_changes(b: &mut [u8], old: Slot, new: Slot) -> usize
     k + n
 }
 
-// The same, opened by the slot's number.
+// A slot's changes, opened by its number.
 fn put_opened(b: &mut [u8], s: SlotNumber, old: Slot, new: Slot) -> usize
     requires { ⌜ (s .0 < records) × (length (bytesSent (sendSlot (s .0) ∷ changes 0 (slotOf old) (slotOf new))) ≤ length (now b)) ⌝ }
     ensures { λ r. ⌜ (r ≡ length (bytesSent (sendSlot (s .0) ∷ changes 0 (slotOf old) (slotOf new)))) × (now (b .exit) ≡ over (bytesSent (sendSlot (s .0) ∷ changes 0 (slotOf old) (slotOf new))) (now (b .entry))) ⌝ }

@@ -282,7 +282,8 @@ loop-again c =
     let more = take (m + 1) (set (top b .loop .taken) m (pos j)) in
     let last : more ≡ taken b ++ pos j ∷ [] = rw add-one (take-suc-set (top b .loop .taken) m (pos j) (placed b)) in
     let same : Same (takenAfter (becomes b) j (taken b)) more = rw (last, begun-taken (becomes b) j (taken b) yes) (same-last (pos j) (taken b)) in
-    let count : counterAfter (becomes b) j (top b .loop .k) ≡ c .after .result = begun-counter (becomes b) j (top b .loop .k) yes ∙ sym (c .after .ensures ∙ ap next ji) in
+    let count : counterAfter (becomes b) j (top b .loop .k) ≡ c .after .result =
+    begun-counter (becomes b) j (top b .loop .k) yes ∙ sym (c .after .ensures ∙ ap next ji) in
     let slot = ap slotOf e ∙ begun-slot (was b) (number 1 b) (number 2 b) (number 3 b) j (kind b) yes (plain b) in
     rw (toZ-ofZ w32 (id .result .0) fi, v) (record {
       inside = omega (arith, below b);
