@@ -19,7 +19,9 @@ pub struct TrackingId(pub i32);
 
 impl TrackingId {
     pub const UNUSED: i32 = -1;
+
     pub const MOST: i32 = 65535;
+
     pub const COUNT: u32 = 65536;
 }
 

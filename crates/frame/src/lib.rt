@@ -42,16 +42,12 @@ fn row_ok(setup: Setup, kind: i32, x: i32, y: i32, pressure: i32) -> bool
     if common::same(kind, 0) {
         return true;
     }
-    if common::same(kind, 1) {
-        return numbers_in(setup, x, y, pressure);
+    if !in_range(kind, 2) {
+        return false;
     }
-    if common::same(kind, 2) {
-        return numbers_in(setup, x, y, pressure);
-    }
-    false
+    numbers_in(setup, x, y, pressure)
 }
 
-// Whether all rows of a frame are good.
 pub fn values_ok(setup: Setup, frame: &[i32]) -> bool
     requires { ⌜ (setupGood base (setupOf setup) ≡ true) × (length (now frame) ≡ perSlot * setup .n) ⌝ }
     ensures { λ r. ⌜ r ≡ valuesGood (panelSeen setup) (now (frame .entry)) ⌝ }

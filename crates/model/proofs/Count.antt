@@ -94,8 +94,10 @@ slots-split (suc c) (o ∷ old) (v ∷ new) = omega (arith, slots-split c old ne
 
 length-body : (c : ℕ) (old new : Table) → length (body c old new) ≡ changedNumbers old new + changedOthers c old new
 length-body c old new =
-    let now = changes 0 (getD old c []) (getD new c []) in
-    omega (arith, length-append now (otherChanges c old new), length-changes 0 (getD old c []) (getD new c []), length-all 0 (slotDone c old new) new, numbers-split c old new)
+    let o = getD old c [] in
+    let v = getD new c [] in
+    let two = length-append (changes 0 o v) (otherChanges c old new) in
+    omega (arith, two, length-changes 0 o v, length-all 0 (slotDone c old new) new, numbers-split c old new)
 
 -- ---- a changed slot has a changed number
 
@@ -120,7 +122,9 @@ length-closed [] = refl
 length-closed (x ∷ xs) = rw (eqb·suc-zero (length xs)) (omega (arith, length-append (x ∷ xs) (sendReport ∷ [])))
 
 pub sending-count : (c : ℕ) (old new : Table) → length (sending c old new) ≡ fewest c old new
-sending-count c old new = length-closed (body c old new) ∙ by-numbers (length (body c old new)) (changedNumbers old new) (changedOthers c old new) (length-body c old new) (omega (arith, slots-split c old new, slots-have-numbers old new))
+sending-count c old new =
+    let few : changedOthers c old new ≤ changedNumbers old new = omega (arith, slots-split c old new, slots-have-numbers old new) in
+    length-closed (body c old new) ∙ by-numbers (length (body c old new)) (changedNumbers old new) (changedOthers c old new) (length-body c old new) few
   where
     by-numbers : (n a b : ℕ) → n ≡ a + b → b ≤ a → cond (eqb n 0) 0 (1 + n) ≡ cond (eqb a 0) 0 (1 + a + b)
     by-numbers n a b e l =

@@ -1,13 +1,46 @@
 -- The model's laws and theorems, one theme a file. The sheet and what is shown come first: a wrong definition fails there, by computing, before any proof.
 --
--- What is computed: Bench (P1 to P9), AtReport (when the shown table changes), FirstBytes (the pod's 256 first bytes), Instances (document 01's layout).
--- Tools: Bools, Tables, Rows, Counts, Order (the loop over set bits), Layouts.
--- Demand 1, refusals: Exact (each number if and only if its test fails), Calls and Answers (what each call answers), Pod for the pod.
--- Demand 2, reading back: Follow, Codes, ReadsBack, Bytes, Shows (what is counted), Link (in bytes, of the calls).
--- Demand 2, a loss: Lost (what loses track, and that nothing brings it back), Loss (of events), Chain (of calls, until a load).
--- Demand 3, fewest events: Count, Least; Ones and Limits (the changed-slot number, the most events and bytes).
--- Runs that are cut: Cut (of events and bytes), Chain (of calls).
--- Ids: Ids, Tries. Well-formed states stay so: ReaderSteady, WriterSteady, FreshSteady, and Calls of each call.
+-- What is computed
+--   Bench: the definitions give the sheet's rows P1 to P9.
+--   AtReport: the shown table stays but at a report, which shows what was pending.
+--   FirstBytes: what each of the 256 first bytes of a pod's report begins.
+--   Instances: the theorems at document 01's layout, at six numbers and at 32 records.
+-- Tools
+--   Bools: tests that pass or fail, and equal whole numbers.
+--   Tables: slots and tables of one size, equal, good, with one slot changed or done.
+--   Rows: a flat run of numbers row by row.
+--   Counts: counts add up.
+--   Layouts: a good setup's panel has fields that events can tell apart and carry.
+--   Order: the slots that a changed-slot number names, taken by its lowest bit, are sent as the model sends them; slot c's bit taken out leaves the others.
+-- Demand 1, refusals
+--   Exact: each refusal's number if and only if its test fails and the earlier ones pass.
+--   Answers: each call's answer by the first test that fails.
+--   Calls: what is accepted, refused, steady and read back, said of each call.
+--   Pod: the same of the pod's reports.
+-- Demand 2, reading back
+--   Follow: what is sent takes a following reader from the old table to the new one.
+--   Codes: the events of what is sent are classified as they were meant.
+--   ReadsBack: so a frame's events read back to its table.
+--   Bytes: what was encoded is decoded, so a frame's bytes read back too.
+--   Shows: a frame counts as one table shown, or nothing where nothing is sent.
+--   Link: all this of `write` and `run`, in bytes.
+-- Demand 2, a loss
+--   Lost: what loses track, and that no event leads back.
+--   Loss: so it is of lists of events.
+--   Chain: and of calls one after another, until a load; and a run may be cut between calls.
+-- Demand 3, fewest events
+--   Count: how many events a frame has, by the current slot and the others.
+--   Least: no shorter list of events does it.
+--   Ones: the changed-slot number's ones and bits, and the most events.
+--   Limits: the changed slots and events of any answer.
+-- Runs that are cut
+--   Cut: a run may be cut between any two records.
+-- Ids and well-formed states
+--   Ids: the id given is free, the first such, below 65,536, and keeps live ids apart.
+--   Tries: as many tries as ids are taken find it, whatever their order.
+--   ReaderSteady: events keep a reader well formed.
+--   WriterSteady: good rows keep a writer well formed.
+--   FreshSteady: fresh states are well formed.
 pub mod Bench
 pub mod AtReport
 pub mod Bools

@@ -99,7 +99,8 @@ some-changes k i (x ∷ o) (y ∷ v) e =
       | false ↦ λ q. refl
     ]) e
 
-bit-opened : (k : ℕ) (o v : Slot) (l : List Sent) → (sameSlot o v ≡ false → l ≡ sendSlot k ∷ changes 0 o v) → ifBit (oneUnless (sameSlot o v)) l ≡ opened k (changes 0 o v)
+bit-opened : (k : ℕ) (o v : Slot) (l : List Sent) → (sameSlot o v ≡ false → l ≡ sendSlot k ∷ changes 0 o v)
+    → ifBit (oneUnless (sameSlot o v)) l ≡ opened k (changes 0 o v)
 bit-opened k o v l e =
     (elim (sameSlot o v) as (λ b. sameSlot o v ≡ b → ifBit (oneUnless b) l ≡ opened k (changes 0 o v)) [
       | true ↦ λ q. sym (ap (opened k) (no-changes 0 o v q))
@@ -108,9 +109,11 @@ bit-opened k o v l e =
 
 -- f gives slot j's changes, opened by its number, for the changed slots from k on.
 abbrev pub Opens : ℕ → Table → Table → (ℕ → List Sent) → Type 0
-Opens k old new f = (j : ℕ) → j < length old → sameSlot (getD old j []) (getD new j []) ≡ false → f j ≡ sendSlot (k + j) ∷ changes 0 (getD old j []) (getD new j [])
+Opens k old new f =
+    (j : ℕ) → j < length old → sameSlot (getD old j []) (getD new j []) ≡ false → f j ≡ sendSlot (k + j) ∷ changes 0 (getD old j []) (getD new j [])
 
-opens-head : (k : ℕ) (o v : Slot) (old new : Table) (f : ℕ → List Sent) → Opens k (o ∷ old) (v ∷ new) f → sameSlot o v ≡ false → f 0 ≡ sendSlot k ∷ changes 0 o v
+opens-head : (k : ℕ) (o v : Slot) (old new : Table) (f : ℕ → List Sent) → Opens k (o ∷ old) (v ∷ new) f → sameSlot o v ≡ false
+    → f 0 ≡ sendSlot k ∷ changes 0 o v
 opens-head k o v old new f e q = let z : k + 0 ≡ k = omega arith in e 0 (omega arith) q ∙ ap {B = List Sent} (λ j. sendSlot j ∷ changes 0 o v) z
 
 opens-tail : (k : ℕ) (o v : Slot) (old new : Table) (f : ℕ → List Sent) → Opens k (o ∷ old) (v ∷ new) f → Opens (suc k) old new (λ j. f (suc j))
@@ -157,7 +160,8 @@ still (suc c) (suc j) (o ∷ old) (v ∷ new) q = still c j old new q
 pub opens-done : (c k : ℕ) (old new : Table) (f : ℕ → List Sent) → Opens k old new f → Opens k (slotDone c old new) new f
 opens-done c k old new f e j h q =
     let w = still c j old new q in
-    e j (omega (arith, length-done c old new)) (sym (ap (λ s. sameSlot s (getD new j [])) w) ∙ q) ∙ ap {B = List Sent} (λ s. sendSlot (k + j) ∷ changes 0 s (getD new j [])) (sym w)
+    let changed = sym (ap (λ s. sameSlot s (getD new j [])) w) ∙ q in
+    e j (omega (arith, length-done c old new)) changed ∙ ap {B = List Sent} (λ s. sendSlot (k + j) ∷ changes 0 s (getD new j [])) (sym w)
 
 -- The changed-slot number with slot c's bit taken out.
 pub mask-without : (c : ℕ) (old new : Table) → changedMask old new - bitAnd (changedMask old new) (2 ^ c) ≡ othersMask c old new

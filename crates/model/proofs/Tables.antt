@@ -99,7 +99,8 @@ pub good-done : (fs : List Field) (n c : ℕ) (old new : Table) → T (goodRecor
 good-done fs n c [] new g h = g
 good-done fs n c (o ∷ old) [] g h = g
 good-done fs n zero (o ∷ old) (v ∷ new) g h = replaced fs n v old (place fs n v new h) (places fs n o old g)
-good-done fs n (suc c) (o ∷ old) (v ∷ new) g h = replaced fs n o _ (place fs n o old g) (good-done fs (n - 1) c old new (places fs n o old g) (places fs n v new h))
+good-done fs n (suc c) (o ∷ old) (v ∷ new) g h =
+    replaced fs n o _ (place fs n o old g) (good-done fs (n - 1) c old new (places fs n o old g) (places fs n v new h))
 
 alike-records : (fs : List Field) (n : ℕ) (old new : Table) → length old ≡ length new → T (goodRecords fs n old) → T (goodRecords fs n new) → Alike old new
 alike-records fs n [] [] e g k = tt

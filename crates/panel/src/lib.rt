@@ -164,13 +164,16 @@ fn rest_unused(n: usize, t: [Slot; RECORDS]) -> bool
     true
 }
 
-// Whether the first n records are good slots, and the others unused.
+// Whether the first n records are good slots, and the others unused. A panel of all records has no others, and its table is not copied for them.
 pub fn table_ok(setup: Setup, t: [Slot; RECORDS]) -> bool
     requires { ⌜ setup .n ≤ records ⌝ }
     ensures { λ r. ⌜ r ≡ goodRecords (fieldsOf setup) (setup .n) (tableOf t) ⌝ }
 {
     if !slots_ok(setup, t) {
         return false;
+    }
+    if setup.n == RECORDS {
+        return true;
     }
     rest_unused(setup.n, t)
 }

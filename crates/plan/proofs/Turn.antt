@@ -1,26 +1,29 @@
--- One turn of the plan: what a slot becomes, and the table and counter that are left to make. Cited by the proofs here; `good-plain` and `rest-stays` by the writer. Assumes nothing.
+-- One turn of the plan: what a slot becomes, and the table and counter that are left to make.
+-- Cited by the proofs here; `good-plain` and `rest-stays` by the writer. Assumes nothing.
 use mathlib.Core.Path.{_≡_, refl, sym, ap, ap₂, _∙_}
 use mathlib.Core.Bool.{Bool, true, false, cond, _&&_, _||_}
 use mathlib.Core.List.{List, [], _∷_, _++_, append-assoc, map-append}
-use Prim.Native.Nat.{ℕ, zero, suc, _+_, _<_}
+use Prim.Native.Nat.{ℕ, zero, suc, _+_, _-_, _*_, _<_, _≤_}
 use native.Mathlib.Numerals.{add-one}
 use native.Mathlib.Omega.{arith}
 use lib.IntN.{ℤ, pos, negsuc}
-use lib.ListN.{length, take, drop, getD, set}
+use lib.ListN.{length, take, drop, getD, set, take-append-drop}
 use lib.Seq.{take-suc-set, drop-set-lt}
 use lib.Signed.{leZ}
 use Rattle.model.specs.Panel.{perSlot}
 use Rattle.model.specs.Numbers.{eqZ, betweenZ}
 use Rattle.model.specs.Table.{Table, idOf, numbersOf, ids, goodSlot, live}
 use Rattle.model.specs.Records.{bitsOf}
-use Rattle.model.specs.Frame.{numbersFrom, rowsFrom, kindOf, goodRow, goodRows, Fate, none, goesOn, begins, fate, freeId, slotAfter, takenAfter, counterAfter, Planned, after, planned, newTable}
+use Rattle.model.specs.Frame.{numbersFrom, rowsFrom, kindOf, goodRow, goodRows, Fate, none, goesOn, begins, fate}
+use Rattle.model.specs.Frame.{freeId, slotAfter, takenAfter, counterAfter, Planned, after, planned, newTable}
 use Rattle.model.proofs.Bools.{and-left, and-right}
+use Rattle.model.proofs.Rows.{rows-next, rows-none, row-of-four}
 use Rattle.model.proofs.Tries.{Same, planned-same}
 use Rattle.panel.specs.declared.Slot as S
 use Rattle.panel.specs.declared.Setup.{Setup}
 use Rattle.panel.specs.Seen.{slotOf, tableOf, axesOf, blank, sameFrom}
 use Rattle.panel.proofs.Tables.{rest-is}
-use Rattle.plan.specs.Row.{begun, held, stayed, unsigned, plainRow, plainRows}
+use Rattle.plan.specs.Row.{begun, held, stayed, unsigned, plainRow, plainRows, planFrom}
 
 -- ---- a row's numbers
 
@@ -50,9 +53,10 @@ good-unsigned u x y p g =
 
 row-plain : (u : Setup) (k x y p : ℤ) → goodRow (axesOf u) (k ∷ three x y p) ≡ true → plainRow (k ∷ three x y p) ≡ true
 row-plain u k x y p g =
-    (elim (eqZ k (pos 0)) as (λ b. (b || ((eqZ k (pos 1) || eqZ k (pos 2)) && goodSlot (axesOf u) (three x y p))) ≡ true → (b || unsigned (three x y p)) ≡ true) [
+    let known = eqZ k (pos 1) || eqZ k (pos 2) in
+    (elim (eqZ k (pos 0)) as (λ b. (b || (known && goodSlot (axesOf u) (three x y p))) ≡ true → (b || unsigned (three x y p)) ≡ true) [
       | true ↦ λ e. refl
-      | false ↦ λ e. good-unsigned u x y p (and-right (eqZ k (pos 1) || eqZ k (pos 2)) _ e)
+      | false ↦ λ e. good-unsigned u x y p (and-right known _ e)
     ]) g
 
 -- Rows that are good for a setup are plain.
@@ -60,7 +64,9 @@ pub good-plain : (u : Setup) (n : ℕ) (f : List ℤ) (at : ℕ) → goodRows (a
 unfolding rowsFrom
 good-plain u zero f at g = refl
 good-plain u (suc n) f at g =
-    let e = row-plain u (getD f at (pos 0)) (getD f (at + 1) (pos 0)) (getD f (at + 1 + 1) (pos 0)) (getD f (at + 1 + 1 + 1) (pos 0)) (and-left (goodRow (axesOf u) (numbersFrom perSlot f at)) _ g) in
+    let v : ℕ → ℤ = λ i. getD f i (pos 0) in
+    let first = and-left (goodRow (axesOf u) (numbersFrom perSlot f at)) _ g in
+    let e = row-plain u (v at) (v (at + 1)) (v (at + 1 + 1)) (v (at + 1 + 1 + 1)) first in
     let r = good-plain u n f (at + 4) (and-right (goodRow (axesOf u) (numbersFrom perSlot f at)) _ g) in
     ap₂ (λ a b. a && b) e r
 
@@ -75,13 +81,15 @@ abbrev fateBy : Bool → Bool → Bool → Fate
 fateBy k0 k2 lives = cond k0 none (cond k2 begins (cond lives goesOn begins))
 
 module _ (was : S.Slot) (x y p : ℤ) (j : ℕ) where
-  begun-by : (k0 k2 lives : Bool) → begun (fateBy k0 k2 lives) ≡ true → (k0 || unsigned (three x y p)) ≡ true → slotOf (held (pos j) x y p) ≡ slotAfter (fateBy k0 k2 lives) j (slotOf was) (three x y p)
+  begun-by : (k0 k2 lives : Bool) → begun (fateBy k0 k2 lives) ≡ true → (k0 || unsigned (three x y p)) ≡ true
+      → slotOf (held (pos j) x y p) ≡ slotAfter (fateBy k0 k2 lives) j (slotOf was) (three x y p)
   begun-by true k2 lives e g = let z : _≡_ {A = ℕ} 0 1 = cc in absurd (omega arith)
   begun-by false true lives e g = ap (λ l. pos j ∷ l) (same-three x y p g)
   begun-by false false true e g = let z : _≡_ {A = ℕ} 0 1 = cc in absurd (omega arith)
   begun-by false false false e g = ap (λ l. pos j ∷ l) (same-three x y p g)
 
-  stayed-by : (k0 k2 lives : Bool) → begun (fateBy k0 k2 lives) ≡ false → (k0 || unsigned (three x y p)) ≡ true → slotOf (stayed k0 was x y p) ≡ slotAfter (fateBy k0 k2 lives) j (slotOf was) (three x y p)
+  stayed-by : (k0 k2 lives : Bool) → begun (fateBy k0 k2 lives) ≡ false → (k0 || unsigned (three x y p)) ≡ true
+      → slotOf (stayed k0 was x y p) ≡ slotAfter (fateBy k0 k2 lives) j (slotOf was) (three x y p)
   stayed-by true k2 lives e g = refl
   stayed-by false true lives e g = let z : _≡_ {A = ℕ} 0 1 = cc in absurd (omega arith)
   stayed-by false false true e g = ap (λ l. was .id .0 ∷ l) (same-three x y p g)
@@ -134,8 +142,10 @@ module _ (taken : List ℤ) (k : ℕ) (t : List S.Slot) (s : ℕ) (h : s < lengt
   kept-is = drop-set-lt (s + 1) t s w (omega arith)
 
   -- What is planned from slot s on is that slot, and what is planned after it.
-  pub plan-turn : slotOf w ≡ slotAfter becomes given (slotOf (getD t s blank)) (numbersOf g) → Same (takenAfter becomes given taken) more → counterAfter becomes given k ≡ n
-      → after (tableOf (take s t)) (planned taken k (g ∷ fr) (tableOf (drop s t))) ≡ after (tableOf (take (s + 1) (set t s w))) (planned more n fr (tableOf (drop (s + 1) (set t s w))))
+  plan-turn : slotOf w ≡ slotAfter becomes given (slotOf (getD t s blank)) (numbersOf g)
+      → Same (takenAfter becomes given taken) more → counterAfter becomes given k ≡ n
+      → after (tableOf (take s t)) (planned taken k (g ∷ fr) (tableOf (drop s t)))
+      ≡ after (tableOf (take (s + 1) (set t s w))) (planned more n fr (tableOf (drop (s + 1) (set t s w))))
   plan-turn e q r =
       let front = tableOf (take s t) in
       let d = tableOf (drop (s + 1) t) in
@@ -144,6 +154,54 @@ module _ (taken : List ℤ) (k : ℕ) (t : List S.Slot) (s : ℕ) (h : s < lengt
       (planned-same (takenAfter becomes given taken) more (counterAfter becomes given k) fr d q ∙ ap (λ m. planned more m fr d) r)
       ∙ after-after front (slotOf w ∷ []) (planned more n fr d)
       ∙ ap₂ (λ a b. after a (planned more n fr (tableOf b))) (sym made-is) (sym kept-is)
+
+-- ---- the row of slot s, and what is left to plan after it
+
+module _ (frame : List ℤ) (s : ℕ) where
+  abbrev pub number : ℕ → ℤ
+  number i = getD frame (perSlot * s + i) (pos 0)
+
+  abbrev pub kind : ℤ
+  kind = getD frame (perSlot * s) (pos 0)
+
+  abbrev pub row : List ℤ
+  row = kind ∷ three (number 1) (number 2) (number 3)
+
+  module _ (n : ℕ) (l : s < n) where
+    abbrev pub rest : List (List ℤ)
+    rest = rowsFrom perSlot (n - (s + 1)) frame (perSlot * (s + 1))
+
+    rows-are : rowsFrom perSlot (n - s) frame (perSlot * s) ≡ row ∷ rest
+    rows-are = rows-next 4 n s frame l ∙ ap {B = List (List ℤ)} (λ r. r ∷ rest) (row-of-four frame (perSlot * s))
+
+    plain : plainRows (rowsFrom perSlot (n - s) frame (perSlot * s)) ≡ true → (plainRow row && plainRows rest) ≡ true
+    plain e = sym (ap plainRows rows-are) ∙ e
+
+    pub plain-row : plainRows (rowsFrom perSlot (n - s) frame (perSlot * s)) ≡ true → plainRow row ≡ true
+    plain-row e = and-left (plainRow row) (plainRows rest) (plain e)
+
+    pub plain-rest : plainRows (rowsFrom perSlot (n - s) frame (perSlot * s)) ≡ true → plainRows rest ≡ true
+    plain-rest e = and-right (plainRow row) (plainRows rest) (plain e)
+
+    -- Once slot s is w, the ids taken are `more` and the counter is m.
+    pub row-turn : (taken : List ℤ) (k : ℕ) (t : List S.Slot) (h : s < length t) (w : S.Slot) (more : List ℤ) (m : ℕ)
+        → (let f = fate kind (getD t s blank .id .0) in let j = freeId taken k in
+        slotOf w ≡ slotAfter f j (slotOf (getD t s blank)) (three (number 1) (number 2) (number 3))
+        → Same (takenAfter f j taken) more → counterAfter f j k ≡ m
+        → planFrom taken k n frame t s ≡ planFrom more m n frame (set t s w) (s + 1))
+    row-turn taken k t h w more m e same count =
+        ap (λ r. after (tableOf (take s t)) (planned taken k r (tableOf (drop s t)))) rows-are
+        ∙ plan-turn taken k t s h row rest w more m e same count
+
+-- Where no row is left, the table is made.
+pub no-row : (taken : List ℤ) (k n : ℕ) (frame : List ℤ) (t : List S.Slot) (s : ℕ) → n ≤ s
+    → planFrom taken k n frame t s ≡ record { table = tableOf t; counter = k }
+no-row taken k n frame t s h =
+    let z : n - s ≡ 0 = omega arith in
+    let front = tableOf (take s t) in
+    let none : rowsFrom perSlot (n - s) frame (perSlot * s) ≡ [] = ap (λ m. rowsFrom perSlot m frame (perSlot * s)) z ∙ rows-none 4 frame (perSlot * s) in
+    let all = sym (map-append slotOf (take s t) (drop s t)) ∙ ap tableOf (take-append-drop s t) in
+    ap (λ r. after front (planned taken k r (tableOf (drop s t)))) none ∙ ap (λ x. record { table = x; counter = k }) all
 
 -- ---- the records without a row
 

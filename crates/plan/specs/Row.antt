@@ -1,8 +1,12 @@
 -- What becomes of one slot, as the code's records, and of all. Cited by the contracts here. Assumes nothing.
+use mathlib.Core.Path.{_≡_}
 use mathlib.Core.Bool.{Bool, true, false, _&&_, _||_}
 use mathlib.Core.List.{List, [], _∷_}
+use Prim.Native.Nat.{ℕ, _-_, _*_, _<_, _≤_}
 use lib.IntN.{ℤ, pos}
+use lib.ListN.{length, take, drop}
 use lib.Signed.{leZ}
+use Rattle.model.specs.Panel.{idCount, perSlot, records}
 use Rattle.model.specs.Numbers.{eqZ, minusOne}
 use Rattle.model.specs.Table.{numbersOf}
 use Rattle.model.specs.Records.{bitsOf}
@@ -48,3 +52,15 @@ plainRows (g ∷ fr) = plainRow g && plainRows fr
 -- A planned table and counter, as the model's.
 abbrev pub plannedOf : Planned → F.Planned
 plannedOf r = record { table = tableOf (r .table); counter = r .counter }
+
+-- The rows of a frame from slot s on are left to plan.
+pub record RowsLeft (n s counter : ℕ) (frame : List ℤ) : Type 0 where
+  pub few : n ≤ records
+  pub inside : s ≤ n
+  pub counts : counter < idCount
+  pub size : length frame ≡ perSlot * n
+  pub plain : plainRows (F.rowsFrom perSlot (n - s) frame (perSlot * s)) ≡ true
+
+-- The first s slots of t, and what the rows from s on make of the others, where `taken` are the ids taken and k is the counter.
+abbrev pub planFrom : List ℤ → ℕ → ℕ → List ℤ → List Slot → ℕ → F.Planned
+planFrom taken k n frame t s = F.after (tableOf (take s t)) (F.planned taken k (F.rowsFrom perSlot (n - s) frame (perSlot * s)) (tableOf (drop s t)))

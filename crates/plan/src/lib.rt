@@ -9,7 +9,7 @@ ghost use Rattle.model.specs.Numbers.{eqZ};
 ghost use Rattle.model.specs.Table.{ids, unheld};
 ghost use Rattle.model.specs.Frame.{fate, freeId, next, rowsFrom, framed};
 ghost use Rattle.panel.specs.Seen.{tableOf, unusedAll, sameFrom};
-ghost use Rattle.plan.specs.Row.{begun, held, stayed, plainRows, plannedOf};
+ghost use Rattle.plan.specs.Row.{begun, held, lifted, stayed, plainRows, plannedOf, RowsLeft, planFrom};
 use common::TrackingId;
 use panel::PER_SLOT;
 use panel::RECORDS;
@@ -81,7 +81,6 @@ fn ids_of(n: usize, t: [Slot; RECORDS]) -> [i32; TAKEN]
     l
 }
 
-// Whether a contact begins in a slot that has this id.
 fn begins(kind: i32, id: TrackingId) -> bool
     ensures { λ r. ⌜ r ≡ begun (fate kind (id .0)) ⌝ }
 {
@@ -109,17 +108,24 @@ fn contact(id: TrackingId, x: i32, y: i32, pressure: i32) -> Slot
     }
 }
 
-// A slot after its row, where no contact begins. A lifted contact's numbers stay: the next one may land on them.
+// A slot without a contact. A lifted contact's numbers stay: the next one may land on them.
+fn lift(was: Slot) -> Slot
+    ensures { λ r. ⌜ r ≡ lifted was ⌝ }
+{
+    Slot {
+        id: TrackingId(TrackingId::UNUSED),
+        x: was.x,
+        y: was.y,
+        pressure: was.pressure,
+    }
+}
+
+// A slot after its row, where no contact begins.
 fn stays(kind: i32, was: Slot, x: i32, y: i32, pressure: i32) -> Slot
     ensures { λ r. ⌜ r ≡ stayed (eqZ kind (pos 0)) was x y pressure ⌝ }
 {
     if common::same(kind, 0) {
-        return Slot {
-            id: TrackingId(TrackingId::UNUSED),
-            x: was.x,
-            y: was.y,
-            pressure: was.pressure,
-        };
+        return lift(was);
     }
     let id = was.id;
     contact(id, x, y, pressure)
@@ -130,16 +136,23 @@ pub struct Planned {
     pub counter: u32,
 }
 
-// The table and the counter after n good rows, of a table that was never used past n slots. An ending or replaced contact's id stays taken to the end of the frame.
-pub fn plan_frame(n: usize, old: [Slot; RECORDS], counter: u32, frame: &[i32]) -> Planned
-    requires { ⌜ (n ≤ records) × (counter < idCount) × (length (now frame) ≡ perSlot * n) × (plainRows (rowsFrom perSlot n (now frame) 0) ≡ true) × sameFrom n old unusedAll ⌝ }
-    ensures { λ r. ⌜ plannedOf r ≡ framed counter (rowsFrom perSlot n (now (frame .entry)) 0) (tableOf old) ⌝ }
+// What is left to plan from a slot on in which a contact begins: the first of `made` are made, and the ids of the old table are taken. An ending or replaced contact's id stays taken to the end of the frame.
+fn give_ids(
+    n: usize,
+    old: [Slot; RECORDS],
+    made: [Slot; RECORDS],
+    counter: u32,
+    frame: &[i32],
+    from: usize,
+) -> Planned
+    requires { ⌜ RowsLeft n from counter (now frame) × sameFrom n old unusedAll ⌝ }
+    ensures { λ r. ⌜ plannedOf r ≡ planFrom (ids (tableOf old)) counter n (now (frame .entry)) made from ⌝ }
 {
     let mut taken = ids_of(n, old);
     let mut m = n;
-    let mut t = old;
+    let mut t = made;
     let mut k = counter;
-    let mut s: usize = 0;
+    let mut s = from;
     while s < n {
         let i = PER_SLOT * s;
         let kind = frame[i];
@@ -165,4 +178,32 @@ pub fn plan_frame(n: usize, old: [Slot; RECORDS], counter: u32, frame: &[i32]) -
         table: t,
         counter: k,
     }
+}
+
+// The table and the counter after n good rows, of a table that was never used past n slots. Most frames begin no contact: the taken ids are gathered at the first that does.
+pub fn plan_frame(n: usize, old: [Slot; RECORDS], counter: u32, frame: &[i32]) -> Planned
+    requires { ⌜ (n ≤ records) × (counter < idCount) × (length (now frame) ≡ perSlot * n) × (plainRows (rowsFrom perSlot n (now frame) 0) ≡ true) × sameFrom n old unusedAll ⌝ }
+    ensures { λ r. ⌜ plannedOf r ≡ framed counter (rowsFrom perSlot n (now (frame .entry)) 0) (tableOf old) ⌝ }
+{
+    let mut t = old;
+    let mut s: usize = 0;
+    while s < n {
+        let i = PER_SLOT * s;
+        let kind = frame[i];
+        let was = t[s];
+        if common::same(kind, 0) {
+            let w = lift(was);
+            t[s] = w;
+            s += 1;
+        } else {
+            let id = was.id;
+            if begins(kind, id) {
+                return give_ids(n, old, t, counter, frame, s);
+            }
+            let w = contact(id, frame[i + 1], frame[i + 2], frame[i + 3]);
+            t[s] = w;
+            s += 1;
+        }
+    }
+    Planned { table: t, counter }
 }

@@ -210,8 +210,14 @@ fn run_accepted(state: ReaderState, bytes: &[u8]) -> RunAnswer
     let mode = state.mode;
     match mode {
         Mode::Following => ran(setup, follow::follow(setup, shown, pending, current, bytes)),
-        Mode::Dropped => ran(setup, follow::lost(shown, current, Mode::Dropped, bytes, 0, none())),
-        Mode::Stale => ran(setup, follow::lost(shown, current, Mode::Stale, bytes, 0, none())),
+        Mode::Dropped => ran(
+            setup,
+            follow::lost(shown, current, Mode::Dropped, bytes, 0, none()),
+        ),
+        Mode::Stale => ran(
+            setup,
+            follow::lost(shown, current, Mode::Stale, bytes, 0, none()),
+        ),
     }
 }
 

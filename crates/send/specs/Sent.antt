@@ -11,6 +11,7 @@ use Rattle.model.specs.Sending.{sendSlot, changes, eventOf}
 use Rattle.model.specs.Order.{ofMask}
 use Rattle.panel.specs.declared.Slot.{Slot}
 use Rattle.panel.specs.Seen.{slotOf, fieldsOf, blank}
+use Rattle.send.specs.declared.Change.{Change}
 
 -- The codes of a slot's fields, which are those of every setup.
 abbrev pub codes : List ℕ
@@ -28,6 +29,10 @@ noneIf false l = l
 -- A number's record, unless the number is the same; an id is given by its bits.
 abbrev pub numberBytes : ℕ → ℕ → ℕ → List ℕ
 numberBytes code old new = noneIf (eqb old new) (recordBytes 3 code new)
+
+-- The record of a change.
+abbrev pub changeBytes : Change → List ℕ
+changeBytes c = numberBytes (c .code) (c .old) (c .new)
 
 -- Slot j's changes, opened by its number.
 abbrev pub openedAt : List Slot → List Slot → ℕ → List M.Sent

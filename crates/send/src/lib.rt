@@ -8,64 +8,71 @@ ghost use Rattle.model.specs.Records.{lay};
 ghost use Rattle.model.specs.Sending.{sendSlot, sendReport, changes, lastOpened};
 ghost use Rattle.panel.specs.Seen.{slotOf};
 ghost use Rattle.records.specs.Seen.{over};
-ghost use Rattle.send.specs.Sent.{bytesSent, numberBytes, sentBy};
+ghost use Rattle.send.specs.Sent.{bytesSent, changeBytes, sentBy};
 use common::SlotNumber;
 use panel::RECORDS;
 use panel::Slot;
 
+// A number of a slot by its code, as it was and as it is; an id by its bits.
+struct Change {
+    code: u16,
+    old: u32,
+    new: u32,
+}
+
 // A number's record at the start of b, unless the number is the same; how many bytes.
-fn put_number(b: &mut [u8], code: u16, old: u32, new: u32) -> usize
-    requires { ⌜ length (numberBytes code old new) ≤ length (now b) ⌝ }
-    ensures { λ r. ⌜ (r ≡ length (numberBytes code old new)) × (now (b .exit) ≡ over (numberBytes code old new) (now (b .entry))) ⌝ }
+fn put_number(b: &mut [u8], c: Change) -> usize
+    requires { ⌜ length (changeBytes c) ≤ length (now b) ⌝ }
+    ensures { λ r. ⌜ (r ≡ length (changeBytes c)) × (now (b .exit) ≡ over (changeBytes c) (now (b .entry))) ⌝ }
 {
-    if old == new {
+    if c.old == c.new {
         return 0;
     }
-    records::put(b, records::ABS, code, new);
+    records::put(b, records::ABS, c.code, c.new);
     records::LENGTH
 }
 
-// Two numbers of a slot.
-fn put_two(b: &mut [u8], code: u16, old: u32, new: u32, code2: u16, old2: u32, new2: u32) -> usize
-    requires { ⌜ length (numberBytes code old new ++ numberBytes code2 old2 new2) ≤ length (now b) ⌝ }
-    ensures { λ r. ⌜ (r ≡ length (numberBytes code old new ++ numberBytes code2 old2 new2)) × (now (b .exit) ≡ over (numberBytes code old new ++ numberBytes code2 old2 new2) (now (b .entry))) ⌝ }
+fn put_two(b: &mut [u8], first: Change, second: Change) -> usize
+    requires { ⌜ length (changeBytes first ++ changeBytes second) ≤ length (now b) ⌝ }
+    ensures { λ r. ⌜ (r ≡ length (changeBytes first ++ changeBytes second)) × (now (b .exit) ≡ over (changeBytes first ++ changeBytes second) (now (b .entry))) ⌝ }
 {
-    let k = put_number(b, code, old, new);
-    let n = put_number(&mut b[k..], code2, old2, new2);
+    let k = put_number(b, first);
+    let n = put_number(&mut b[k..], second);
     k + n
 }
 
-// The changed numbers of a slot.
 fn put_changes(b: &mut [u8], old: Slot, new: Slot) -> usize
     requires { ⌜ length (bytesSent (changes 0 (slotOf old) (slotOf new))) ≤ length (now b) ⌝ }
     ensures { λ r. ⌜ (r ≡ length (bytesSent (changes 0 (slotOf old) (slotOf new)))) × (now (b .exit) ≡ over (bytesSent (changes 0 (slotOf old) (slotOf new))) (now (b .entry))) ⌝ }
 {
     let was = old.id;
     let is = new.id;
-    let i = records::bits_of(was.0);
-    let j = records::bits_of(is.0);
-    let k = put_two(
-        b,
-        records::TRACKING_ID,
-        i,
-        j,
-        records::POSITION_X,
-        old.x,
-        new.x,
-    );
-    let n = put_two(
-        &mut b[k..],
-        records::POSITION_Y,
-        old.y,
-        new.y,
-        records::PRESSURE,
-        old.pressure,
-        new.pressure,
-    );
+    let id = Change {
+        code: records::TRACKING_ID,
+        old: records::bits_of(was.0),
+        new: records::bits_of(is.0),
+    };
+    let x = Change {
+        code: records::POSITION_X,
+        old: old.x,
+        new: new.x,
+    };
+    let y = Change {
+        code: records::POSITION_Y,
+        old: old.y,
+        new: new.y,
+    };
+    let pressure = Change {
+        code: records::PRESSURE,
+        old: old.pressure,
+        new: new.pressure,
+    };
+    let k = put_two(b, id, x);
+    let n = put_two(&mut b[k..], y, pressure);
     k + n
 }
 
-// The same, opened by the slot's number.
+// A slot's changes, opened by its number.
 fn put_opened(b: &mut [u8], s: SlotNumber, old: Slot, new: Slot) -> usize
     requires { ⌜ (s .0 < records) × (length (bytesSent (sendSlot (s .0) ∷ changes 0 (slotOf old) (slotOf new))) ≤ length (now b)) ⌝ }
     ensures { λ r. ⌜ (r ≡ length (bytesSent (sendSlot (s .0) ∷ changes 0 (slotOf old) (slotOf new)))) × (now (b .exit) ≡ over (bytesSent (sendSlot (s .0) ∷ changes 0 (slotOf old) (slotOf new))) (now (b .entry))) ⌝ }

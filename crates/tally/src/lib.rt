@@ -33,7 +33,6 @@ fn unlike_id(a: TrackingId, b: TrackingId) -> u32
     1
 }
 
-// How many numbers of a slot differ.
 fn differ(a: Slot, b: Slot) -> u32
     ensures { λ r. ⌜ (r ≤ 4) × (r ≡ changedIn (slotOf a) (slotOf b)) ⌝ }
 {
@@ -79,7 +78,6 @@ fn without_current(mask: u16, current: SlotNumber) -> u16
     mask - (mask & (1u16 << current.0))
 }
 
-// How many slots a changed-slot number names.
 fn ones(mask: u16) -> u32
     ensures { λ r. ⌜ (r ≤ records) × (r ≡ onesOf mask) ⌝ }
 {
@@ -98,7 +96,6 @@ fn event_count(numbers: u32, others: u16) -> usize
     1 + (numbers as usize) + slots
 }
 
-// The changed slots, those of them other than the current slot, and the number of events.
 pub struct Changed {
     pub slots: u16,
     pub others: u16,

@@ -1,9 +1,10 @@
--- `panel::ids_differ` tells whether the live ids differ. Those of the first k slots do, and fall on the bits that were met. Assumes nothing.
+-- `panel::ids_differ` tells whether the live ids differ. Assumes nothing.
 use borrow.Author.Needs.{needs}
 use borrow.Author.Tests.{not-true, not-false}
 use mathlib.Core.Path.{_≡_, refl, sym, ap, _∙_}
 use mathlib.Core.Bool.{false}
-use Prim.Native.Nat.{_≤_, _<_, _-_}
+use mathlib.Core.List.{List}
+use Prim.Native.Nat.{ℕ, _≤_, _<_, _-_}
 use native.Mathlib.Omega.{arith}
 use lib.IntN.{ℤ}
 use lib.ListN.{take, getD, length}
@@ -12,35 +13,66 @@ use mir.Val.{SFits, toZ, ofZ}
 use mir.ValLaws.{toZ-ofZ}
 use Rattle.model.specs.Numbers.{eqZ, minusOne}
 use Rattle.model.specs.Table.{ids, unheld}
+use Rattle.panel.specs.declared.Slot.{Slot}
 use Rattle.common.specs.Seen.{natural}
 use Rattle.panel.specs.Seen.{tableOf, blank}
 use Rattle.panel.proofs.Apart.{Walked, dead-turn, free-turn, met-turn, clash-turn, walk-over}
 use Rattle.panel.proofs.ids_differ.Statement.{statement}
 use Rattle.panel.proofs.ids_differ.Tie as tie
 
+-- The first k slots are walked over.
+record Seen (n : ℕ) (t : List Slot) (met k : ℕ) : Type 0 where
+  inside : k ≤ n
+  walked : Walked t k met
+
 abbrev Inv-loop : tie.InvT-loop
-Inv-loop n t met₀ k₀ met k = (k ≤ n) × Walked t k met
+Inv-loop n t met₀ k₀ met k = Seen n t met k
 
 abbrev μ-loop : tie.MeasureT-loop
 μ-loop n t met₀ k₀ met k = n - k
 
--- ---- the slot of a turn
+-- ---- places
 
-abbrev turn : tie.After-same Inv-loop μ-loop → tie.At-loop Inv-loop μ-loop
+-- Where a slot's id is read, and it is known whether that is -1.
+abbrev Id : Type 0
+Id = tie.After-same Inv-loop μ-loop
+
+abbrev turn : Id → tie.At-loop Inv-loop μ-loop
 turn c = c .before .before .before .before .before
 
-abbrev id : tie.After-same Inv-loop μ-loop → ℤ
-id c = getD (turn c .before .args .t2) (turn c .loop .k) blank .id .0
+-- Where its bit was met before, and the ids before it are compared with it.
+abbrev Compared : Type 0
+Compared = tie.After-unheld-before Inv-loop μ-loop
 
-inside : (c : tie.After-same Inv-loop μ-loop) → turn c .loop .k < length (turn c .before .args .t2)
+abbrev lived : Compared → tie.Then1 Inv-loop μ-loop
+lived c = c .before .before .before
+
+-- ---- the slot of a turn
+
+abbrev t : Id → List Slot
+t c = turn c .before .args .t2
+
+abbrev k : Id → ℕ
+k c = turn c .loop .k
+
+abbrev met : Id → ℕ
+met c = turn c .loop .met
+
+abbrev id : Id → ℤ
+id c = getD (t c) (k c) blank .id .0
+
+walked : (c : Id) → Walked (t c) (k c) (met c)
+walked c = turn c .loop .inv .walked
+
+inside : (c : Id) → k c < length (t c)
 inside c = search needs
 
-read : (c : tie.After-same Inv-loop μ-loop) → toZ w32 (ofZ w32 (id c)) ≡ id c
+read : (c : Id) → toZ w32 (ofZ w32 (id c)) ≡ id c
 read c =
     let f : SFits w32 (id c) = search needs in
     toZ-ofZ w32 (id c) f
 
-dead-is : (c : tie.After-same Inv-loop μ-loop) → c .same .result ≡ eqZ (id c) minusOne
+dead-is : (c : Id) → c .same .result ≡ eqZ (id c) minusOne
 dead-is c = c .same .ensures ∙ ap (λ z. eqZ z minusOne) (read c)
 
 lives : (c : tie.Then1 Inv-loop μ-loop) → eqZ (id (c .before)) minusOne ≡ false
@@ -49,18 +81,15 @@ lives c = sym (dead-is (c .before)) ∙ not-true (c .before .same .result) (c .i
 bit-is : (c : tie.After-nat-of Inv-loop μ-loop) → c .nat-of .result ≡ natural (id (c .before .before))
 bit-is c = c .nat-of .ensures ∙ ap natural (read (c .before .before))
 
-front-is : (c : tie.After-unheld-before Inv-loop μ-loop)
-    → (let s = c .before .before .before .before in let l = turn s in
-    c .unheld-before .result ≡ unheld (id s) (ids (tableOf (take (l .loop .k) (l .before .args .t2)))))
+front-is : (c : Compared) → (let s = lived c .before in c .unheld-before .result ≡ unheld (id s) (ids (tableOf (take (k s) (t s)))))
 front-is c =
-    let s = c .before .before .before .before in
-    let l = turn s in
-    c .unheld-before .ensures ∙ ap (λ z. unheld z (ids (tableOf (take (l .loop .k) (l .before .args .t2))))) (read s)
+    let s = lived c .before in
+    c .unheld-before .ensures ∙ ap (λ z. unheld z (ids (tableOf (take (k s) (t s))))) (read s)
 
 -- ---- the needs
 
 loop-holds : tie.Need-loop-holds Inv-loop μ-loop
-loop-holds c = (search needs, (λ v a z. refl, refl))
+loop-holds c = record { inside = omega arith; walked = (λ v a z. refl, refl) }
 
 mul-c : tie.Need-mul-c Inv-loop μ-loop
 mul-c c = search needs
@@ -88,11 +117,11 @@ loop-less c = search needs
 
 loop-again : tie.Need-loop-again Inv-loop μ-loop
 loop-again c =
-    let s = c .before .before .before in
-    let l = turn s in
+    let l = c .before .before in
+    let s = l .before in
     let e = bit-is (c .before) in
-    let w = free-turn (l .before .args .t2) (l .loop .k) (inside s) (l .loop .met) (lives (c .before .before)) (rw e at (c .if2 .taken)) (l .loop .inv .1) in
-    (search needs, rw e w)
+    let w = free-turn (t s) (k s) (inside s) (met s) (lives l) (rw e at (c .if2 .taken)) (walked s) in
+    record { inside = search needs; walked = rw e w }
 
 unheld-before-requires : tie.Need-unheld-before-requires Inv-loop μ-loop
 unheld-before-requires c κs = search needs
@@ -100,10 +129,9 @@ unheld-before-requires c κs = search needs
 returns : tie.Need-returns Inv-loop μ-loop
 returns c =
     let u = c .before in
-    let s = u .before .before .before .before in
-    let l = turn s in
+    let s = lived u .before in
     let held = sym (front-is u) ∙ not-true (u .unheld-before .result) (c .if3 .taken) in
-    sym (clash-turn (l .before .args .t2) (l .loop .k) (inside s) (l .loop .met) (lives (u .before .before .before)) held)
+    sym (clash-turn (t s) (k s) (inside s) (met s) (lives (lived u)) held)
 
 loop-less-2 : tie.Need-loop-less-2 Inv-loop μ-loop
 loop-less-2 c = search needs
@@ -111,12 +139,11 @@ loop-less-2 c = search needs
 loop-again-2 : tie.Need-loop-again-2 Inv-loop μ-loop
 loop-again-2 c =
     let u = c .before in
-    let s = u .before .before .before .before in
-    let l = turn s in
+    let s = lived u .before in
     let e = bit-is (u .before .before) in
     let free = sym (front-is u) ∙ not-false (u .unheld-before .result) (c .if3 .left) in
-    let met = rw e at (u .before .if2 .left) in
-    (search needs, met-turn (l .before .args .t2) (l .loop .k) (inside s) (l .loop .met) (lives (u .before .before .before)) met free (l .loop .inv .1))
+    let was-met = rw e at (u .before .if2 .left) in
+    record { inside = search needs; walked = met-turn (t s) (k s) (inside s) (met s) (lives (lived u)) was-met free (walked s) }
 
 loop-less-3 : tie.Need-loop-less-3 Inv-loop μ-loop
 loop-less-3 c = search needs
@@ -124,16 +151,15 @@ loop-less-3 c = search needs
 loop-again-3 : tie.Need-loop-again-3 Inv-loop μ-loop
 loop-again-3 c =
     let s = c .before in
-    let l = turn s in
-    let d = sym (dead-is s) ∙ not-false (s .same .result) (c .if1 .left) in
-    (search needs, dead-turn (l .before .args .t2) (l .loop .k) (inside s) (l .loop .met) d (l .loop .inv .1))
+    let dead = sym (dead-is s) ∙ not-false (s .same .result) (c .if1 .left) in
+    record { inside = search needs; walked = dead-turn (t s) (k s) (inside s) (met s) dead (walked s) }
 
 returns-2 : tie.Need-returns-2 Inv-loop μ-loop
 returns-2 c =
     let s = c .before .before in
     let l = c .before .loop in
     let e : s .args .n ≡ l .k = omega arith in
-    sym (walk-over (s .args .t2) (l .k) (l .met) (rw e at (s .pre .1)) (l .inv .1))
+    sym (walk-over (s .args .t2) (l .k) (l .met) (rw e at (s .pre .1)) (l .inv .walked))
 
 pub ids-differ-spec : {M : Type 1} → statement M
 ids-differ-spec =

@@ -1,88 +1,63 @@
--- `plan::plan_frame` makes the table and the counter after a frame. The first m of `taken` are the ids taken so far. Assumes nothing.
+-- `plan::plan_frame` makes the table and the counter after a frame, up to the first contact that begins; the rest is `give_ids`'. Assumes nothing.
 use borrow.Author.Needs.{needs}
 use mathlib.Core.Path.{_≡_, refl, sym, ap, _∙_}
-use mathlib.Core.Bool.{true, false, _&&_}
-use mathlib.Core.List.{List, [], _∷_, _++_, map-append}
+use mathlib.Core.Bool.{true, false, cond}
+use mathlib.Core.List.{List, [], _∷_}
 use Prim.Native.Nat.{ℕ, _<_, _≤_, _+_, _-_, _*_}
-use native.Mathlib.Numerals.{add-one}
 use native.Mathlib.Omega.{arith}
 use lib.IntN.{ℤ, pos}
-use lib.ListN.{length, take, drop, getD, set, length-set, take-append-drop}
-use lib.Seq.{length-take-le, take-suc-set}
+use lib.ListN.{length, getD, set, length-set}
 use mir.Syntax.{w32}
 use mir.Val.{SFits}
 use mir.ValLaws.{toZ-ofZ}
 use Rattle.model.specs.Panel.{idCount, perSlot, records}
 use Rattle.model.specs.Numbers.{eqZ}
-use Rattle.model.specs.Table.{ids, unheld}
-use Rattle.model.specs.Frame.{Fate, fate, next, freeId, rowsFrom, slotAfter, takenAfter, counterAfter, after, planned, framed}
-use Rattle.model.proofs.Bools.{and-left, and-right}
-use Rattle.model.proofs.Rows.{rows-next, rows-none, row-of-four}
-use Rattle.model.proofs.Tries.{Same, same-last, planned-same}
+use Rattle.model.specs.Table.{ids, live}
+use Rattle.model.specs.Frame.{Fate, none, goesOn, begins, fate, freeId, rowsFrom, slotAfter, takenAfter, counterAfter, framed}
+use Rattle.model.proofs.Tries.{Same}
 use Rattle.panel.specs.declared.Slot.{Slot}
-use Rattle.common.specs.declared.TrackingId.{TrackingId}
 use Rattle.panel.specs.Seen.{slotOf, tableOf, blank}
-use Rattle.panel.proofs.Apart.{front-holds}
-use Rattle.plan.specs.Row.{begun, held, stayed, plainRow, plainRows}
-use Rattle.plan.proofs.Turn.{begun-slot, stayed-slot, begun-taken, begun-counter, stayed-taken, stayed-counter, plan-turn}
+use Rattle.plan.specs.Row.{begun, stayed, plainRow, plainRows, planFrom}
+use Rattle.plan.proofs.Turn as Turn
+use Rattle.plan.proofs.Turn.{stayed-slot, stayed-taken, stayed-counter}
 use Rattle.plan.proofs.plan_frame.Statement.{statement}
 use Rattle.plan.proofs.plan_frame.Tie as tie
 
--- The first s slots are made, and what is planned of the rest is left to make: with it the whole is what the frame plans.
-record Made (n counter : ℕ) (frame : List ℤ) (old : List Slot) (taken : List ℤ) (m : ℕ) (t : List Slot) (k s : ℕ) : Type 0 where
+-- The first s slots are made, and no id is given: what is left is what the frame plans.
+record Kept (n counter : ℕ) (frame : List ℤ) (old t : List Slot) (s : ℕ) : Type 0 where
   inside : s ≤ n
-  fewTaken : m ≤ records + s
-  counts : k < idCount
   slots : length t ≡ records
-  places : length taken ≡ 2 * records
   plain : plainRows (rowsFrom perSlot (n - s) frame (perSlot * s)) ≡ true
-  whole : framed counter (rowsFrom perSlot n frame 0) (tableOf old)
-      ≡ after (tableOf (take s t)) (planned (take m taken) k (rowsFrom perSlot (n - s) frame (perSlot * s)) (tableOf (drop s t)))
+  whole : framed counter (rowsFrom perSlot n frame 0) (tableOf old) ≡ planFrom (ids (tableOf old)) counter n frame t s
 
 abbrev Inv-loop : tie.InvT-loop
-Inv-loop n counter frame taken₀ m₀ t₀ k₀ s₀ taken m t k s = Made n counter frame t₀ taken m t k s
+Inv-loop n old counter frame t₀ s₀ t s = Kept n counter frame old t s
 
 abbrev μ-loop : tie.MeasureT-loop
-μ-loop n counter frame taken₀ m₀ t₀ k₀ s₀ taken m t k s = n - s
+μ-loop n old counter frame t₀ s₀ t s = n - s
 
 -- ---- places
 
--- Where both arms of the loop start: slot s and the kind of its row are read, and it is known whether a contact begins.
+-- Where all arms of the loop start: slot s and its row's kind are read, and it is known whether that is 0.
 abbrev Row : Type 0
-Row = tie.After-begins Inv-loop μ-loop
+Row = tie.After-same Inv-loop μ-loop
 
--- The turn of the loop that it is in, the loop's locals before the turn, and where the call starts.
 abbrev turn : Row → tie.In-loop Inv-loop μ-loop
-turn b = b .before .before .before .before
+turn b = b .before .before .before
 
 abbrev top : Row → tie.At-loop Inv-loop μ-loop
 top b = turn b .before
 
 abbrev start : Row → tie.Start Inv-loop μ-loop
-start b = top b .before .before
+start b = top b .before
 
--- The arm in which a contact begins: it is known to, its id is chosen, held as an id, and the slot is made.
-abbrev Begun : Type 0
-Begun = tie.After-after Inv-loop μ-loop
+-- Where the kind is not 0, and it is known whether a contact begins.
+abbrev asked : tie.After-begins Inv-loop μ-loop → tie.Else1 Inv-loop μ-loop
+asked c = c .before .before
 
-abbrev made : Begun → tie.After-contact Inv-loop μ-loop
-made c = c .before .before
-
-abbrev named : Begun → tie.After-id-of Inv-loop μ-loop
-named c = made c .before .before .before .before
-
-abbrev chosen : Begun → tie.After-choose Inv-loop μ-loop
-chosen c = named c .before
-
-abbrev beginning : Begun → tie.Then1 Inv-loop μ-loop
-beginning c = chosen c .before .before
-
--- The other arm.
-abbrev Stayed : Type 0
-Stayed = tie.After-stays Inv-loop μ-loop
-
-abbrev staying : Stayed → tie.Else1 Inv-loop μ-loop
-staying c = c .before .before .before .before
+-- Where the contact goes on.
+abbrev going : tie.After-contact Inv-loop μ-loop → tie.Else2 Inv-loop μ-loop
+going c = c .before .before .before .before
 
 -- ---- slot s and its row
 
@@ -99,16 +74,10 @@ abbrev t : Row → List Slot
 t b = top b .loop .t
 
 abbrev number : ℕ → Row → ℤ
-number i b = getD (fr b) (perSlot * s b + i) (pos 0)
+number i b = Turn.number (fr b) (s b) i
 
 abbrev kind : Row → ℤ
-kind b = getD (fr b) (perSlot * s b) (pos 0)
-
-abbrev row : Row → List ℤ
-row b = kind b ∷ number 1 b ∷ number 2 b ∷ number 3 b ∷ []
-
-abbrev rest : Row → List (List ℤ)
-rest b = rowsFrom perSlot (n b - (s b + 1)) (fr b) (perSlot * (s b + 1))
+kind b = Turn.kind (fr b) (s b)
 
 abbrev was : Row → Slot
 was b = getD (t b) (s b) blank
@@ -116,14 +85,14 @@ was b = getD (t b) (s b) blank
 abbrev becomes : Row → Fate
 becomes b = fate (kind b) (was b .id .0)
 
--- The ids taken so far, and the id that a contact that begins here takes.
+-- The ids taken, and the id that a contact that begins here would take.
 abbrev taken : Row → List ℤ
-taken b = take (top b .loop .m) (top b .loop .taken)
+taken b = ids (tableOf (start b .args .old))
 
 abbrev given : Row → ℕ
-given b = freeId (taken b) (top b .loop .k)
+given b = freeId (taken b) (start b .args .counter)
 
-known : (b : Row) → Made (n b) (start b .args .counter) (fr b) (start b .args .old) (top b .loop .taken) (top b .loop .m) (t b) (top b .loop .k) (s b)
+known : (b : Row) → Kept (n b) (start b .args .counter) (fr b) (start b .args .old) (t b) (s b)
 known b = top b .loop .inv
 
 below : (b : Row) → s b < n b
@@ -132,61 +101,41 @@ below b = turn b .loop-test .taken
 inside : (b : Row) → s b < length (t b)
 inside b = omega (arith, below b, known b .slots, start b .pre .0)
 
--- There is a place left among the taken ids.
-placed : (b : Row) → top b .loop .m < length (top b .loop .taken)
-placed b = omega (arith, below b, known b .fewTaken, known b .places, start b .pre .0)
-
-rows-are : (b : Row) → rowsFrom perSlot (n b - s b) (fr b) (perSlot * s b) ≡ row b ∷ rest b
-rows-are b = rows-next 4 (n b) (s b) (fr b) (below b) ∙ ap {B = List (List ℤ)} (λ r. r ∷ rest b) (row-of-four (fr b) (perSlot * s b))
-
-plain : (b : Row) → (plainRow (row b) && plainRows (rest b)) ≡ true
-plain b = sym (ap plainRows (rows-are b)) ∙ known b .plain
-
-plain-row : (b : Row) → plainRow (row b) ≡ true
-plain-row b = and-left (plainRow (row b)) (plainRows (rest b)) (plain b)
-
-plain-rest : (b : Row) → plainRows (rest b) ≡ true
-plain-rest b = and-right (plainRow (row b)) (plainRows (rest b)) (plain b)
-
-begins-is : (b : Row) → b .begins .result ≡ begun (becomes b)
-begins-is b =
+kind-read : (b : Row) → b .same .result ≡ eqZ (kind b) (pos 0)
+kind-read b =
     let f : SFits w32 (kind b) = search needs in
-    rw (toZ-ofZ w32 (kind b) f) at (b .begins .ensures)
+    rw (toZ-ofZ w32 (kind b) f) at (b .same .ensures)
 
--- What is left to make, once the slot is w, the ids taken are `more` and the counter is k.
-left : (b : Row) (w : Slot) (more : List ℤ) (k : ℕ)
-    → slotOf w ≡ slotAfter (becomes b) (given b) (slotOf (was b)) (number 1 b ∷ number 2 b ∷ number 3 b ∷ [])
-    → Same (takenAfter (becomes b) (given b) (taken b)) more → counterAfter (becomes b) (given b) (top b .loop .k) ≡ k
-    → framed (start b .args .counter) (rowsFrom perSlot (n b) (fr b) 0) (tableOf (start b .args .old))
-    ≡ after (tableOf (take (s b + 1) (set (t b) (s b) w))) (planned more k (rest b) (tableOf (drop (s b + 1) (set (t b) (s b) w))))
-left b w more k e same count =
-    known b .whole
-    ∙ ap (λ r. after (tableOf (take (s b) (t b))) (planned (taken b) (top b .loop .k) r (tableOf (drop (s b) (t b))))) (rows-are b)
-    ∙ plan-turn (taken b) (top b .loop .k) (t b) (s b) (inside b) (row b) (rest b) w more k e same count
+begins-is : (c : tie.After-begins Inv-loop μ-loop) → c .begins .result ≡ begun (becomes (asked c .before))
+begins-is c =
+    let b = asked c .before in
+    let f : SFits w32 (kind b) = search needs in
+    rw (toZ-ofZ w32 (kind b) f) at (c .begins .ensures)
+
+-- A slot in which no contact begins: the ids taken and the counter stay.
+turned : (b : Row) (w : Slot) → w ≡ stayed (eqZ (kind b) (pos 0)) (was b) (number 1 b) (number 2 b) (number 3 b) → begun (becomes b) ≡ false
+    → Kept (n b) (start b .args .counter) (fr b) (start b .args .old) (set (t b) (s b) w) (s b + 1)
+turned b w e stays =
+    let k = start b .args .counter in
+    let same : Same (takenAfter (becomes b) (given b) (taken b)) (taken b) = rw (stayed-taken (becomes b) (given b) (taken b) stays) (λ i. refl) in
+    let count = stayed-counter (becomes b) (given b) k stays in
+    let plain = Turn.plain-row (fr b) (s b) (n b) (below b) (known b .plain) in
+    let slot = ap slotOf e ∙ stayed-slot (was b) (number 1 b) (number 2 b) (number 3 b) (given b) (kind b) stays plain in
+    record {
+      inside = omega (arith, below b);
+      slots = length-set (t b) (s b) w ∙ known b .slots;
+      plain = Turn.plain-rest (fr b) (s b) (n b) (below b) (known b .plain);
+      whole = known b .whole ∙ Turn.row-turn (fr b) (s b) (n b) (below b) (taken b) k (t b) (inside b) w (taken b) k slot same count;
+    }
 
 -- ---- the needs
 
-ids-of-requires : tie.Need-ids-of-requires Inv-loop μ-loop
-ids-of-requires c κs = search needs
-
 loop-holds : tie.Need-loop-holds Inv-loop μ-loop
 loop-holds c =
-    let a = c .before .args in
+    let a = c .args in
     let z : a .n - 0 ≡ a .n = omega arith in
     let lt : length (a .old) ≡ records = search needs in
-    let ll : length (c .ids-of .result) ≡ 2 * records = search needs in
-    let rows = rowsFrom perSlot (a .n) (a .frame .now) 0 in
-    let l = take (a .n) (c .ids-of .result) in
-    let same : Same (ids (tableOf (a .old))) l = λ k. front-holds (a .old) (a .n) (c .before .pre .4) (pos k) refl ∙ ap (unheld (pos k)) (sym (c .ids-of .ensures)) in
-    record {
-      inside = omega arith;
-      fewTaken = omega (arith, c .before .pre .0);
-      counts = c .before .pre .1;
-      slots = lt;
-      places = ll;
-      plain = rw z (c .before .pre .3);
-      whole = rw z (planned-same (ids (tableOf (a .old))) l (a .counter) rows (tableOf (a .old)) same);
-    }
+    record { inside = omega arith; slots = lt; plain = rw z (c .pre .3); whole = rw z refl }
 
 mul-i : tie.Need-mul-i Inv-loop μ-loop
 mul-i c = search needs
@@ -203,27 +152,45 @@ mul-was c = search needs
 array-copy-out-was : tie.Need-array-copy-out-was Inv-loop μ-loop
 array-copy-out-was c = search needs
 
+same-requires : tie.Need-same-requires Inv-loop μ-loop
+same-requires c κs = search needs
+
+lift-requires : tie.Need-lift-requires Inv-loop μ-loop
+lift-requires c κs = search needs
+
+mul-t : tie.Need-mul-t Inv-loop μ-loop
+mul-t c = search needs
+
+array-set-from-t : tie.Need-array-set-from-t Inv-loop μ-loop
+array-set-from-t c = search needs
+
+add-s : tie.Need-add-s Inv-loop μ-loop
+add-s c = search needs
+
+loop-less : tie.Need-loop-less Inv-loop μ-loop
+loop-less c = search needs
+
+loop-again : tie.Need-loop-again Inv-loop μ-loop
+loop-again c =
+    let b = c .before .before in
+    let is-0 : eqZ (kind b) (pos 0) ≡ true = sym (kind-read b) ∙ c .before .if1 .taken in
+    let lives = live (was b .id .0) in
+    let no = ap (λ z. begun (cond z none (cond (eqZ (kind b) (pos 2)) begins (cond lives goesOn begins)))) is-0 in
+    turned b (c .lift .result) (c .lift .ensures ∙ sym (ap (λ z. stayed z (was b) (number 1 b) (number 2 b) (number 3 b)) is-0)) no
+
 begins-requires : tie.Need-begins-requires Inv-loop μ-loop
 begins-requires c κs = search needs
 
-array-share-prefix-taken : tie.Need-array-share-prefix-taken Inv-loop μ-loop
-array-share-prefix-taken c = search needs
+give-ids-requires : tie.Need-give-ids-requires Inv-loop μ-loop
+give-ids-requires c κs =
+    let b = asked (c .before) .before in
+    let p = start b .pre in
+    (record { few = p .0; inside = known b .inside; counts = p .1; size = p .2; plain = known b .plain }, p .4)
 
-slice-aggregate-choose : tie.Need-slice-aggregate-choose Inv-loop μ-loop
-slice-aggregate-choose c =
-    let b = c .before .before in
-    let fit : top b .loop .m ≤ length (top b .loop .taken) = omega (arith, placed b) in
-    sym (length-take-le (top b .loop .m) (top b .loop .taken) fit)
-
-choose-requires : tie.Need-choose-requires Inv-loop μ-loop
-choose-requires c κs =
-    let b = c .before .before in
-    let fit : top b .loop .m ≤ length (top b .loop .taken) = omega (arith, placed b) in
-    let few : length (taken b) ≡ top b .loop .m = length-take-le (top b .loop .m) (top b .loop .taken) fit in
-    (omega (arith, placed b, known b .places), known b .counts)
-
-id-of-requires : tie.Need-id-of-requires Inv-loop μ-loop
-id-of-requires c κs = search needs
+returns : tie.Need-returns Inv-loop μ-loop
+returns c =
+    let b = asked (c .before .before) .before in
+    c .give-ids .ensures ∙ sym (known b .whole)
 
 add-contact : tie.Need-add-contact Inv-loop μ-loop
 add-contact c = search needs
@@ -255,92 +222,6 @@ shared-slice-copy-out-contact-3 c = search needs
 contact-requires : tie.Need-contact-requires Inv-loop μ-loop
 contact-requires c κs = search needs
 
-mul-t : tie.Need-mul-t Inv-loop μ-loop
-mul-t c = search needs
-
-array-set-from-t : tie.Need-array-set-from-t Inv-loop μ-loop
-array-set-from-t c = search needs
-
-mul-taken : tie.Need-mul-taken Inv-loop μ-loop
-mul-taken c = search needs
-
-array-set-from-taken : tie.Need-array-set-from-taken Inv-loop μ-loop
-array-set-from-taken c = search needs
-
-add-m : tie.Need-add-m Inv-loop μ-loop
-add-m c = search needs
-
-after-requires : tie.Need-after-requires Inv-loop μ-loop
-after-requires c κs = search needs
-
-add-s : tie.Need-add-s Inv-loop μ-loop
-add-s c = search needs
-
-loop-less : tie.Need-loop-less Inv-loop μ-loop
-loop-less c = search needs
-
-loop-again : tie.Need-loop-again Inv-loop μ-loop
-loop-again c =
-    let b = beginning c .before in
-    let j = given b in
-    let f1 : SFits w32 (number 1 b) = search needs in
-    let f2 : SFits w32 (number 2 b) = search needs in
-    let f3 : SFits w32 (number 3 b) = search needs in
-    let yes : begun (becomes b) ≡ true = sym (begins-is b) ∙ beginning c .if1 .taken in
-    let id = named c .id-of in
-    let ji : chosen c .choose .result ≡ j = chosen c .choose .ensures .1 in
-    let fi : SFits w32 (id .result .0) = search needs in
-    let v : id .result .0 ≡ pos j = ap (λ (x : TrackingId). x .0) (id .ensures) ∙ ap pos ji in
-    let w = made c .contact .result in
-    let e : w ≡ held (pos j) (number 1 b) (number 2 b) (number 3 b) =
-    (rw (toZ-ofZ w32 (number 1 b) f1, toZ-ofZ w32 (number 2 b) f2, toZ-ofZ w32 (number 3 b) f3) at (made c .contact .ensures))
-    ∙ ap (λ i. held i (number 1 b) (number 2 b) (number 3 b)) v in
-    let m = top b .loop .m in
-    let more = take (m + 1) (set (top b .loop .taken) m (pos j)) in
-    let last : more ≡ taken b ++ pos j ∷ [] = rw add-one (take-suc-set (top b .loop .taken) m (pos j) (placed b)) in
-    let same : Same (takenAfter (becomes b) j (taken b)) more = rw (last, begun-taken (becomes b) j (taken b) yes) (same-last (pos j) (taken b)) in
-    let count : counterAfter (becomes b) j (top b .loop .k) ≡ c .after .result = begun-counter (becomes b) j (top b .loop .k) yes ∙ sym (c .after .ensures ∙ ap next ji) in
-    let slot = ap slotOf e ∙ begun-slot (was b) (number 1 b) (number 2 b) (number 3 b) j (kind b) yes (plain-row b) in
-    rw (toZ-ofZ w32 (id .result .0) fi, v) (record {
-      inside = omega (arith, below b);
-      fewTaken = omega (arith, known b .fewTaken);
-      counts = omega (arith, c .after .ensures);
-      slots = length-set (t b) (s b) w ∙ known b .slots;
-      places = length-set (top b .loop .taken) m (pos j) ∙ known b .places;
-      plain = plain-rest b;
-      whole = left b w more (c .after .result) slot same count;
-    })
-
-add-stays : tie.Need-add-stays Inv-loop μ-loop
-add-stays c = search needs
-
-mul-stays : tie.Need-mul-stays Inv-loop μ-loop
-mul-stays c = search needs
-
-shared-slice-copy-out-stays : tie.Need-shared-slice-copy-out-stays Inv-loop μ-loop
-shared-slice-copy-out-stays c = search needs
-
-add-stays-2 : tie.Need-add-stays-2 Inv-loop μ-loop
-add-stays-2 c = search needs
-
-mul-stays-2 : tie.Need-mul-stays-2 Inv-loop μ-loop
-mul-stays-2 c = search needs
-
-shared-slice-copy-out-stays-2 : tie.Need-shared-slice-copy-out-stays-2 Inv-loop μ-loop
-shared-slice-copy-out-stays-2 c = search needs
-
-add-stays-3 : tie.Need-add-stays-3 Inv-loop μ-loop
-add-stays-3 c = search needs
-
-mul-stays-3 : tie.Need-mul-stays-3 Inv-loop μ-loop
-mul-stays-3 c = search needs
-
-shared-slice-copy-out-stays-3 : tie.Need-shared-slice-copy-out-stays-3 Inv-loop μ-loop
-shared-slice-copy-out-stays-3 c = search needs
-
-stays-requires : tie.Need-stays-requires Inv-loop μ-loop
-stays-requires c κs = search needs
-
 mul-t-2 : tie.Need-mul-t-2 Inv-loop μ-loop
 mul-t-2 c = search needs
 
@@ -355,41 +236,21 @@ loop-less-2 c = search needs
 
 loop-again-2 : tie.Need-loop-again-2 Inv-loop μ-loop
 loop-again-2 c =
-    let b = staying c .before in
-    let f0 : SFits w32 (kind b) = search needs in
+    let e = going c in
+    let b = asked (e .before) .before in
     let f1 : SFits w32 (number 1 b) = search needs in
     let f2 : SFits w32 (number 2 b) = search needs in
     let f3 : SFits w32 (number 3 b) = search needs in
-    let no : begun (becomes b) ≡ false = sym (begins-is b) ∙ staying c .if1 .left in
-    let w = c .stays .result in
-    let e : w ≡ stayed (eqZ (kind b) (pos 0)) (was b) (number 1 b) (number 2 b) (number 3 b) =
-    rw (toZ-ofZ w32 (kind b) f0, toZ-ofZ w32 (number 1 b) f1, toZ-ofZ w32 (number 2 b) f2, toZ-ofZ w32 (number 3 b) f3) at (c .stays .ensures) in
-    let same : Same (takenAfter (becomes b) (given b) (taken b)) (taken b) = rw (stayed-taken (becomes b) (given b) (taken b) no) (λ i. refl) in
-    let count : counterAfter (becomes b) (given b) (top b .loop .k) ≡ top b .loop .k = stayed-counter (becomes b) (given b) (top b .loop .k) no in
-    let slot = ap slotOf e ∙ stayed-slot (was b) (number 1 b) (number 2 b) (number 3 b) (given b) (kind b) no (plain-row b) in
-    record {
-      inside = omega (arith, below b);
-      fewTaken = omega (arith, known b .fewTaken);
-      counts = known b .counts;
-      slots = length-set (t b) (s b) w ∙ known b .slots;
-      places = known b .places;
-      plain = plain-rest b;
-      whole = left b w (taken b) (top b .loop .k) slot same count;
-    }
+    let not-0 : eqZ (kind b) (pos 0) ≡ false = sym (kind-read b) ∙ asked (e .before) .if1 .left in
+    let no : begun (becomes b) ≡ false = sym (begins-is (e .before)) ∙ e .if2 .left in
+    let w = rw (toZ-ofZ w32 (number 1 b) f1, toZ-ofZ w32 (number 2 b) f2, toZ-ofZ w32 (number 3 b) f3) at (c .contact .ensures) in
+    turned b (c .contact .result) (w ∙ sym (ap (λ z. stayed z (was b) (number 1 b) (number 2 b) (number 3 b)) not-0)) no
 
-returns : tie.Need-returns Inv-loop μ-loop
-returns c =
+returns-2 : tie.Need-returns-2 Inv-loop μ-loop
+returns-2 c =
     let l = c .before .loop in
-    let a = c .before .before .before .args in
-    let f = a .frame .now in
-    let front = tableOf (take (l .s) (l .t)) in
-    let z : a .n - l .s ≡ 0 = omega arith in
-    let none : rowsFrom perSlot (a .n - l .s) f (perSlot * l .s) ≡ [] = ap (λ m. rowsFrom perSlot m f (perSlot * l .s)) z ∙ rows-none 4 f (perSlot * l .s) in
-    let all : front ++ tableOf (drop (l .s) (l .t)) ≡ tableOf (l .t) =
-    sym (map-append slotOf (take (l .s) (l .t)) (drop (l .s) (l .t))) ∙ ap tableOf (take-append-drop (l .s) (l .t)) in
-    sym (l .inv .whole
-    ∙ ap (λ r. after front (planned (take (l .m) (l .taken)) (l .k) r (tableOf (drop (l .s) (l .t))))) none
-    ∙ ap (λ x. record { table = x; counter = l .k }) all)
+    let a = c .before .before .args in
+    sym (l .inv .whole ∙ Turn.no-row (ids (tableOf (a .old))) (a .counter) (a .n) (a .frame .now) (l .t) (l .s) (c .loop-test .left))
 
 pub plan-frame-spec : {M : Type 1} → statement M
 plan-frame-spec =
@@ -397,18 +258,22 @@ plan-frame-spec =
     (tie.spec
     Inv-loop
     μ-loop
-    ids-of-requires
     loop-holds
     mul-i
     mul-kind
     shared-slice-copy-out-kind
     mul-was
     array-copy-out-was
+    same-requires
+    lift-requires
+    mul-t
+    array-set-from-t
+    add-s
+    loop-less
+    loop-again
     begins-requires
-    array-share-prefix-taken
-    slice-aggregate-choose
-    choose-requires
-    id-of-requires
+    give-ids-requires
+    returns
     add-contact
     mul-contact
     shared-slice-copy-out-contact
@@ -419,28 +284,9 @@ plan-frame-spec =
     mul-contact-3
     shared-slice-copy-out-contact-3
     contact-requires
-    mul-t
-    array-set-from-t
-    mul-taken
-    array-set-from-taken
-    add-m
-    after-requires
-    add-s
-    loop-less
-    loop-again
-    add-stays
-    mul-stays
-    shared-slice-copy-out-stays
-    add-stays-2
-    mul-stays-2
-    shared-slice-copy-out-stays-2
-    add-stays-3
-    mul-stays-3
-    shared-slice-copy-out-stays-3
-    stays-requires
     mul-t-2
     array-set-from-t-2
     add-s-2
     loop-less-2
     loop-again-2
-    returns)
+    returns-2)

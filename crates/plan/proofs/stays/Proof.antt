@@ -15,8 +15,11 @@ kind-0 c = c .same .ensures ∙ ap (λ z. eqZ z (pos 0)) (toZ-ofZ w32 (c .before
 same-requires : tie.Need-same-requires
 same-requires c κs = search needs
 
+lift-requires : tie.Need-lift-requires
+lift-requires c κs = search needs
+
 returns : tie.Need-returns
-returns c = rw (← kind-0 (c .before), c .if1 .taken)
+returns c = rw (← kind-0 (c .before .before), c .before .if1 .taken) (c .lift .ensures)
 
 contact-requires : tie.Need-contact-requires
 contact-requires c κs = search needs
@@ -29,4 +32,4 @@ returns-2 c =
     (rw (toZ-ofZ w32 (a .x) (s .fits .x), toZ-ofZ w32 (a .y) (s .fits .y), toZ-ofZ w32 (a .pressure) (s .fits .pressure)) at (c .contact .ensures))
 
 pub stays-spec : {M : Type 1} → statement M
-stays-spec = tie.close (tie.spec same-requires returns contact-requires returns-2)
+stays-spec = tie.close (tie.spec same-requires lift-requires returns contact-requires returns-2)

@@ -69,7 +69,10 @@ returns c =
     let s = c .before .before .before .before .before .before .before .before .before .before in
     let p = c .before .before .before .before .before .before .put in
     let q = c .before .before .put-changes in
-    rw (whole s) (two-sum (A s) (B s) 8 (q .result) (eight s) (q .ensures .0), two-put (A s) (B s) (s .args .b .now) (p .last .0) 8 (eight s) (p .ensures) (q .last .0) (q .ensures .1))
+    rw (whole s) (
+      two-sum (A s) (B s) 8 (q .result) (eight s) (q .ensures .0),
+      two-put (A s) (B s) (s .args .b .now) (p .last .0) 8 (eight s) (p .ensures) (q .last .0) (q .ensures .1),
+    )
 
 pub put-opened-spec : {M : Type 1} → statement M
 put-opened-spec =

@@ -4,16 +4,16 @@ use Prim.Native.Nat.{ℕ}
 use native.Mathlib.Omega.{arith}
 use lib.ListN.{length-append}
 use Rattle.records.proofs.Over.{two-start, two-room, two-put, two-sum}
-use Rattle.send.specs.Sent.{numberBytes}
+use Rattle.send.specs.Sent.{changeBytes}
 use borrow.Author.Needs.{needs}
 use Rattle.send.proofs.put_two.Statement.{statement}
 use Rattle.send.proofs.put_two.Tie as tie
 
 abbrev A : tie.Start → List ℕ
-A s = numberBytes (s .args .code) (s .args .old) (s .args .new)
+A s = changeBytes (s .args .first)
 
 abbrev B : tie.Start → List ℕ
-B s = numberBytes (s .args .code2) (s .args .old2) (s .args .new2)
+B s = changeBytes (s .args .second)
 
 put-number-requires : tie.Need-put-number-requires
 put-number-requires c κs =
@@ -52,8 +52,10 @@ returns : tie.Need-returns
 returns c =
     let s = c .before .before .before .before .before .before .before .before .before in
     let p = c .before .before .before .before .before .before .put-number in
-    let q = c .before .before .put-number2 in
-    (two-sum (A s) (B s) (p .result) (q .result) (p .ensures .0) (q .ensures .0), two-put (A s) (B s) (s .args .b .now) (p .last .0) (p .result) (p .ensures .0) (p .ensures .1) (q .last .0) (q .ensures .1))
+    let q = c .before .before .put-number2 in (
+      two-sum (A s) (B s) (p .result) (q .result) (p .ensures .0) (q .ensures .0),
+      two-put (A s) (B s) (s .args .b .now) (p .last .0) (p .result) (p .ensures .0) (p .ensures .1) (q .last .0) (q .ensures .1),
+    )
 
 pub put-two-spec : {M : Type 1} → statement M
 put-two-spec =

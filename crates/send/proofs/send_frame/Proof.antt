@@ -1,12 +1,14 @@
--- `send::send_frame` writes the current slot's changes, those of the others and the report. The loop has written the slots whose bits m no longer has; what is left to lay over b from `end` on is m's, and the report. Assumes nothing.
+-- `send::send_frame` writes the current slot's changes, those of the others and the report. The loop has written the slots whose bits m no longer has.
+-- Assumes nothing.
 use borrow.Author.Needs.{needs}
 use mathlib.Core.Path.{_≡_, refl, sym, ap, _∙_}
 use mathlib.Core.List.{List, [], _∷_, _++_, append-assoc}
-use Prim.Native.Nat.{ℕ, _<_, _≤_, _+_, _-_, _%_}
+use Prim.Native.Nat.{ℕ, _<_, _≤_, _+_, _-_, _%_, _^_}
 use native.Mathlib.Omega.{arith}
 use lib.Bits.{bitAnd, and-le-r}
 use lib.Count.{trailingZeros}
 use lib.ListN.{length, length-append, length-drop, take, drop, getD}
+use Rattle.model.specs.Panel.{records}
 use Rattle.model.specs.Records.{recordBytes, lay}
 use Rattle.model.specs.Sending.{Sent, sendReport, changes, lastOpened}
 use Rattle.model.specs.Order.{ofMask}
@@ -23,86 +25,122 @@ use Rattle.send.proofs.send_frame.Tie as tie
 
 -- the slots that m names, and the report
 abbrev left : List Slot → List Slot → ℕ → List ℕ
-left old new m = bytesSent (ofMask 16 m (openedAt old new) ++ sendReport ∷ [])
+left old new m = bytesSent (ofMask records m (openedAt old new) ++ sendReport ∷ [])
+
+-- What is left to lay over b from `end` on, and the slot that is opened last, are those that were left at the start.
+record Laid (old new : List Slot) (b₀ : List ℕ) (end₀ m₀ last₀ : ℕ) (b : List ℕ) (end m last : ℕ) : Type 0 where
+  bits : m < 2 ^ records
+  size : length b ≡ length b₀
+  room : end + length (left old new m) ≤ length b
+  opened : lastOpened last₀ (ofMask records m₀ (openedAt old new)) ≡ lastOpened last (ofMask records m (openedAt old new))
+  bytes : lay end₀ (left old new m₀) b₀ ≡ lay end (left old new m) b
 
 abbrev Inv-loop : tie.InvT-loop
-Inv-loop b₀ at others old new c first end₀ m₀ last₀ b end m last =
-    (m < 65536) × (length b ≡ length b₀) × (end + length (left old new m) ≤ length b)
-    × (lastOpened last₀ (ofMask 16 m₀ (openedAt old new)) ≡ lastOpened last (ofMask 16 m (openedAt old new)))
-    × (lay end₀ (left old new m₀) b₀ ≡ lay end (left old new m) b)
+Inv-loop b₀ at others old new c first end₀ m₀ last₀ b end m last = Laid old new b₀ end₀ m₀ last₀ b end m last
 
 abbrev μ-loop : tie.MeasureT-loop
 μ-loop b₀ at others old new c first end₀ m₀ last₀ b end m last = m
 
+-- ---- places
+
+-- Where the loop is, where the current slot's changes are written, and where the call starts.
+abbrev Loop : Type 0
+Loop = tie.At-loop Inv-loop μ-loop
+
+abbrev begun : Loop → tie.After-put-changes Inv-loop μ-loop
+begun l = l .before .before .before
+
+abbrev start : Loop → tie.Start Inv-loop μ-loop
+start l = begun l .before .before .before .before .before
+
+-- A turn of the loop, and where it has written a slot.
+abbrev Turn : Type 0
+Turn = tie.In-loop Inv-loop μ-loop
+
+abbrev turned : tie.After-put-opened Inv-loop μ-loop → Turn
+turned p = p .before .before .before .before
+
 -- ---- the current slot's changes, and then all that is left
 
+abbrev old : tie.Start Inv-loop μ-loop → List Slot
+old s = s .args .t3
+
+abbrev new : tie.Start Inv-loop μ-loop → List Slot
+new s = s .args .t4
+
+abbrev c0 : tie.Start Inv-loop μ-loop → ℕ
+c0 s = s .args .current .0
+
 abbrev current : tie.Start Inv-loop μ-loop → List Sent
-current s = changes 0 (slotOf (getD (s .args .t3) (s .args .current .0) blank)) (slotOf (getD (s .args .t4) (s .args .current .0) blank))
+current s = changes 0 (slotOf (getD (old s) (c0 s) blank)) (slotOf (getD (new s) (c0 s) blank))
+
+abbrev others : tie.Start Inv-loop μ-loop → List Sent
+others s = ofMask records (s .args .others) (openedAt (old s) (new s))
 
 abbrev A : tie.Start Inv-loop μ-loop → List ℕ
 A s = bytesSent (current s)
 
 abbrev R : tie.Start Inv-loop μ-loop → List ℕ
-R s = left (s .args .t3) (s .args .t4) (s .args .others)
+R s = left (old s) (new s) (s .args .others)
 
-whole : (s : tie.Start Inv-loop μ-loop) → bytesSent (sentBy (s .args .t3) (s .args .t4) (s .args .others) (s .args .current .0) ++ sendReport ∷ []) ≡ A s ++ R s
-whole s =
-    let others = ofMask 16 (s .args .others) (openedAt (s .args .t3) (s .args .t4)) in
-    ap bytesSent (append-assoc (current s) others (sendReport ∷ [])) ∙ sent-append (current s) (others ++ sendReport ∷ [])
+whole : (s : tie.Start Inv-loop μ-loop) → bytesSent (sentBy (old s) (new s) (s .args .others) (c0 s) ++ sendReport ∷ []) ≡ A s ++ R s
+whole s = ap bytesSent (append-assoc (current s) (others s) (sendReport ∷ [])) ∙ sent-append (current s) (others s ++ sendReport ∷ [])
 
 room : (s : tie.Start Inv-loop μ-loop) → s .args .at + length (A s ++ R s) ≤ length (s .args .b .now)
 room s = rw (whole s) at (s .pre .1)
 
 -- ---- a turn: the lowest set bit's slot, and the other bits
 
-nonzero : (c : tie.In-loop Inv-loop μ-loop) → 0 < c .before .loop .m
+nonzero : (c : Turn) → 0 < c .before .loop .m
 nonzero c = search needs
 
-abbrev parts : tie.In-loop Inv-loop μ-loop → ℕ → List Sent
-parts c = openedAt (c .before .before .before .before .before .before .before .before .before .args .t3) (c .before .before .before .before .before .before .before .before .before .args .t4)
+abbrev parts : Turn → ℕ → List Sent
+parts c = openedAt (old (start (c .before))) (new (start (c .before)))
 
-abbrev z : tie.In-loop Inv-loop μ-loop → ℕ
-z c = trailingZeros 16 (c .before .loop .m)
+abbrev z : Turn → ℕ
+z c = trailingZeros records (c .before .loop .m)
 
-abbrev rest : tie.In-loop Inv-loop μ-loop → List Sent
-rest c = ofMask 16 (bitAnd (c .before .loop .m) (c .before .loop .m - 1)) (parts c)
+abbrev rest : Turn → List Sent
+rest c = ofMask records (bitAnd (c .before .loop .m) (c .before .loop .m - 1)) (parts c)
 
 -- its bytes, and those of what is left then
-abbrev B : tie.In-loop Inv-loop μ-loop → List ℕ
+abbrev B : Turn → List ℕ
 B c = bytesSent (parts c (z c))
 
-abbrev L : tie.In-loop Inv-loop μ-loop → List ℕ
+abbrev L : Turn → List ℕ
 L c = bytesSent (rest c ++ sendReport ∷ [])
 
-split : (c : tie.In-loop Inv-loop μ-loop) → ofMask 16 (c .before .loop .m) (parts c) ≡ parts c (z c) ++ rest c
-split c = mask-next 16 (c .before .loop .m) (parts c) (nonzero c) (c .before .loop .inv .0)
+split : (c : Turn) → ofMask records (c .before .loop .m) (parts c) ≡ parts c (z c) ++ rest c
+split c = mask-next records (c .before .loop .m) (parts c) (nonzero c) (c .before .loop .inv .bits)
 
-split-bytes : (c : tie.In-loop Inv-loop μ-loop) → bytesSent (ofMask 16 (c .before .loop .m) (parts c) ++ sendReport ∷ []) ≡ B c ++ L c
+split-bytes : (c : Turn) → bytesSent (ofMask records (c .before .loop .m) (parts c) ++ sendReport ∷ []) ≡ B c ++ L c
 split-bytes c =
     ap (λ xs. bytesSent (xs ++ sendReport ∷ [])) (split c) ∙ ap bytesSent (append-assoc (parts c (z c)) (rest c) (sendReport ∷ []))
     ∙ sent-append (parts c (z c)) (rest c ++ sendReport ∷ [])
 
-more-room : (c : tie.In-loop Inv-loop μ-loop) → c .before .loop .end + length (B c ++ L c) ≤ length (c .before .loop .b)
-more-room c = rw (split-bytes c) at (c .before .loop .inv .2)
+more-room : (c : Turn) → c .before .loop .end + length (B c ++ L c) ≤ length (c .before .loop .b)
+more-room c = rw (split-bytes c) at (c .before .loop .inv .room)
 
-below : (c : tie.In-loop Inv-loop μ-loop) → z c < 16
-below c = trailing-below 16 (c .before .loop .m) (nonzero c) (c .before .loop .inv .0)
+below : (c : Turn) → z c < records
+below c = trailing-below records (c .before .loop .m) (nonzero c) (c .before .loop .inv .bits)
 
-place : (c : tie.In-loop Inv-loop μ-loop) → z c % 16 ≡ z c
+place : (c : Turn) → z c % records ≡ z c
 place c = omega (arith, below c)
 
 -- ---- after the loop: the report
 
-none : (c : tie.After-loop Inv-loop μ-loop) → ofMask 16 (c .before .loop .m) (openedAt (c .before .before .before .before .before .before .before .before .before .args .t3) (c .before .before .before .before .before .before .before .before .before .args .t4)) ≡ []
+none : (c : tie.After-loop Inv-loop μ-loop) → (let s = start (c .before) in ofMask records (c .before .loop .m) (openedAt (old s) (new s)) ≡ [])
 none c =
-    let f = openedAt (c .before .before .before .before .before .before .before .before .before .args .t3) (c .before .before .before .before .before .before .before .before .before .args .t4) in
-    ap (λ m. ofMask 16 m f) (c .loop-test .left) ∙ mask-none 16 f
+    let f = openedAt (old (start (c .before))) (new (start (c .before))) in
+    ap (λ m. ofMask records m f) (c .loop-test .left) ∙ mask-none records f
 
-report-left : (c : tie.After-loop Inv-loop μ-loop) → left (c .before .before .before .before .before .before .before .before .before .args .t3) (c .before .before .before .before .before .before .before .before .before .args .t4) (c .before .loop .m) ≡ recordBytes 0 0 0
+report-left : (c : tie.After-loop Inv-loop μ-loop) → left (old (start (c .before))) (new (start (c .before))) (c .before .loop .m) ≡ recordBytes 0 0 0
 report-left c = ap (λ xs. bytesSent (xs ++ sendReport ∷ [])) (none c) ∙ report-bytes
 
 report-room : (c : tie.After-loop Inv-loop μ-loop) → c .before .loop .end + 8 ≤ length (c .before .loop .b)
-report-room c = omega (arith, ap length (report-left c), record-length 0 0 0, c .before .loop .inv .2)
+report-room c = omega (arith, ap length (report-left c), record-length 0 0 0, c .before .loop .inv .room)
+
+-- ---- the needs
 
 mul-o : tie.Need-mul-o Inv-loop μ-loop
 mul-o c = search needs
@@ -142,7 +180,8 @@ loop-holds : tie.Need-loop-holds Inv-loop μ-loop
 loop-holds c =
     let s = c .before .before .before .before .before .before .before in
     let p = c .before .before .put-changes in
-    (search needs, refl, turn-more (s .args .at) (p .result) (A s) (R s) (s .args .b .now) (p .last .0) (p .ensures .0) (room s) (p .ensures .1), refl, refl)
+    let more = turn-more (s .args .at) (p .result) (A s) (R s) (s .args .b .now) (p .last .0) (p .ensures .0) (room s) (p .ensures .1) in
+    record { bits = search needs; size = refl; room = more; opened = refl; bytes = refl }
 
 cast-s : tie.Need-cast-s Inv-loop μ-loop
 cast-s c = search needs
@@ -151,10 +190,10 @@ sub-m : tie.Need-sub-m Inv-loop μ-loop
 sub-m c = search needs
 
 sub-put-opened : tie.Need-sub-put-opened Inv-loop μ-loop
-sub-put-opened c = omega (arith, c .before .loop .inv .2)
+sub-put-opened c = omega (arith, c .before .loop .inv .room)
 
 part-put-opened-start : tie.Need-part-put-opened-start Inv-loop μ-loop
-part-put-opened-start c = omega (arith, c .before .loop .inv .2)
+part-put-opened-start c = omega (arith, c .before .loop .inv .room)
 
 part-put-opened-end : tie.Need-part-put-opened-end Inv-loop μ-loop
 part-put-opened-end c = search needs
@@ -179,35 +218,40 @@ put-opened-requires c κs =
 
 add-end-2 : tie.Need-add-end-2 Inv-loop μ-loop
 add-end-2 c =
-    let i = c .before .before .before .before .before .before in
+    let p = c .before .before in
+    let i = turned p in
     let l = i .before .loop in
-    let s = i .before .before .before .before .before .before .before .before .before in
-    let q = i .before .before .before .before .put-changes in
-    let p = c .before .before .put-opened in
-    let e : p .result ≡ length (B i) = rw (place i) at (p .ensures .0) in
+    let s = start (i .before) in
+    let q = begun (i .before) .put-changes in
+    let e : p .put-opened .result ≡ length (B i) = rw (place i) at (p .put-opened .ensures .0) in
     let n = turn-length (s .args .at) (q .result) (A s) (R s) (s .args .b .now) (q .last .0) (q .ensures .0) (room s) (q .ensures .1) in
-    omega (arith, length-append (B i) (L i), more-room i, l .inv .1, n, s .good)
+    omega (arith, length-append (B i) (L i), more-room i, l .inv .size, n, s .good)
 
 loop-less : tie.Need-loop-less Inv-loop μ-loop
 loop-less c =
-    let i = c .before .before .before .before .before .before in
+    let i = turned (c .before .before) in
     omega (arith, and-le-r (i .before .loop .m) (i .before .loop .m - 1), nonzero i)
 
 loop-again : tie.Need-loop-again Inv-loop μ-loop
 loop-again c =
-    let i = c .before .before .before .before .before .before in
+    let i = turned (c .before .before) in
     let l = i .before .loop in
-    let a = i .before .before .before .before .before .before .before .before .before .args in
+    let s = start (i .before) in
     let p = c .before .before .put-opened in
     let e : p .result ≡ length (B i) = rw (place i) at (p .ensures .0) in
-    let w : p .last .0 ≡ over (B i) (take (length (l .b) - l .end) (drop (l .end) (l .b))) = rw (place i) at (p .ensures .1) in (
-      omega (arith, and-le-r (l .m) (l .m - 1), l .inv .0),
-      turn-length (l .end) (p .result) (B i) (L i) (l .b) (p .last .0) e (more-room i) w ∙ l .inv .1,
-      turn-more (l .end) (p .result) (B i) (L i) (l .b) (p .last .0) e (more-room i) w,
-      l .inv .3 ∙ ap (lastOpened (l .last)) (split i) ∙ last-append (l .last) (parts i (z i)) (rest i)
-          ∙ ap (λ k. lastOpened k (rest i)) (last-changes (z i) 0 (slotOf (getD (a .t3) (z i) blank)) (slotOf (getD (a .t4) (z i) blank)) ∙ sym (place i)),
-      l .inv .4 ∙ ap (λ bs. lay (l .end) bs (l .b)) (split-bytes i) ∙ turn-lay (l .end) (p .result) (B i) (L i) (l .b) (p .last .0) e (more-room i) w,
-    )
+    let w : p .last .0 ≡ over (B i) (take (length (l .b) - l .end) (drop (l .end) (l .b))) = rw (place i) at (p .ensures .1) in
+    let last = last-changes (z i) 0 (slotOf (getD (old s) (z i) blank)) (slotOf (getD (new s) (z i) blank)) in
+    record {
+      bits = omega (arith, and-le-r (l .m) (l .m - 1), l .inv .bits);
+      size = turn-length (l .end) (p .result) (B i) (L i) (l .b) (p .last .0) e (more-room i) w ∙ l .inv .size;
+      room = turn-more (l .end) (p .result) (B i) (L i) (l .b) (p .last .0) e (more-room i) w;
+      opened =
+          l .inv .opened ∙ ap (lastOpened (l .last)) (split i) ∙ last-append (l .last) (parts i (z i)) (rest i)
+          ∙ ap (λ k. lastOpened k (rest i)) (last ∙ sym (place i));
+      bytes =
+          l .inv .bytes ∙ ap (λ bs. lay (l .end) bs (l .b)) (split-bytes i)
+          ∙ turn-lay (l .end) (p .result) (B i) (L i) (l .b) (p .last .0) e (more-room i) w;
+    }
 
 sub-put : tie.Need-sub-put Inv-loop μ-loop
 sub-put c = omega (arith, report-room c)
@@ -231,17 +275,17 @@ returns : tie.Need-returns Inv-loop μ-loop
 returns c =
     let i = c .before .before .before .before in
     let l = i .before .loop in
-    let s = i .before .before .before .before .before .before .before .before .before in
-    let q = i .before .before .before .before .put-changes in
+    let s = start (i .before) in
+    let q = begun (i .before) .put-changes in
     let p = c .before .before .put in
-    let others = ofMask 16 (s .args .others) (openedAt (s .args .t3) (s .args .t4)) in
-    let o = slotOf (getD (s .args .t3) (s .args .current .0) blank) in
-    let v = slotOf (getD (s .args .t4) (s .args .current .0) blank) in
     let inside : l .end ≤ length (l .b) = omega (arith, report-room i) in
+    let first = last-changes (c0 s) 0 (slotOf (getD (old s) (c0 s) blank)) (slotOf (getD (new s) (c0 s) blank)) in
+    let last = last-append (c0 s) (current s) (others s) ∙ ap (λ k. lastOpened k (others s)) first in
+    let laid = turn-lay (s .args .at) (q .result) (A s) (R s) (s .args .b .now) (q .last .0) (q .ensures .0) (room s) (q .ensures .1) in
     rw (whole s) (
-      sym (last-append (s .args .current .0) (current s) others ∙ ap (λ k. lastOpened k others) (last-changes (s .args .current .0) 0 o v) ∙ l .inv .3 ∙ ap (lastOpened (l .last)) (none i)),
-      lay-put (l .end) (recordBytes 0 0 0) (l .b) (p .last .0) inside (p .ensures) ∙ ap (λ bs. lay (l .end) bs (l .b)) (sym (report-left i)) ∙ sym (l .inv .4)
-          ∙ sym (turn-lay (s .args .at) (q .result) (A s) (R s) (s .args .b .now) (q .last .0) (q .ensures .0) (room s) (q .ensures .1)),
+      sym (last ∙ l .inv .opened ∙ ap (lastOpened (l .last)) (none i)),
+      lay-put (l .end) (recordBytes 0 0 0) (l .b) (p .last .0) inside (p .ensures)
+          ∙ ap (λ bs. lay (l .end) bs (l .b)) (sym (report-left i)) ∙ sym (l .inv .bytes) ∙ sym laid,
     )
 
 pub send-frame-spec : {M : Type 1} → statement M

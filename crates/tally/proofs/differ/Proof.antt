@@ -36,7 +36,8 @@ returns c =
     let x : c .before .before .unlike .result ≡ oneUnless (eqb (a .a .x) (a .b .x)) = c .before .before .unlike .ensures .1 in
     let y : c .before .unlike2 .result ≡ oneUnless (eqb (a .a .y) (a .b .y)) = c .before .unlike2 .ensures .1 in
     let p : c .unlike3 .result ≡ oneUnless (eqb (a .a .pressure) (a .b .pressure)) = c .unlike3 .ensures .1 in
-    (omega (arith, c .before .before .before .unlike-id .ensures .0, c .before .before .unlike .ensures .0, c .before .unlike2 .ensures .0, c .unlike3 .ensures .0), omega arith)
+    let i = c .before .before .before .unlike-id .ensures .0 in
+    (omega (arith, i, c .before .before .unlike .ensures .0, c .before .unlike2 .ensures .0, c .unlike3 .ensures .0), omega arith)
 
 pub differ-spec : {M : Type 1} → statement M
 differ-spec =

@@ -29,7 +29,8 @@ add-result-2 c = search needs
 returns-2 : tie.Need-returns-2
 returns-2 c =
     let a = c .before .before .args in
-    (ap (λ n. 1 + a .numbers + n) (c .ones .ensures .1) ∙ sym (ap (λ b. cond b 0 (1 + a .numbers + ones (a .others))) (ne-eqb (a .numbers) 0 (c .before .if1 .left))), omega (arith, c .ones .ensures .0, c .before .before .pre))
+    let some = ap (λ b. cond b 0 (1 + a .numbers + ones (a .others))) (ne-eqb (a .numbers) 0 (c .before .if1 .left)) in
+    (ap (λ n. 1 + a .numbers + n) (c .ones .ensures .1) ∙ sym some, omega (arith, c .ones .ensures .0, c .before .before .pre))
 
 pub event-count-spec : {M : Type 1} → statement M
 event-count-spec =

@@ -1,0 +1,430 @@
+-- `plan::give_ids` makes the rest of a frame's table, and its counter. The first m of `taken` are the ids taken so far. Assumes nothing.
+use borrow.Author.Needs.{needs}
+use mathlib.Core.Path.{_≡_, refl, sym, ap, _∙_}
+use mathlib.Core.Bool.{true, false, _&&_}
+use mathlib.Core.List.{List, [], _∷_, _++_, map-append}
+use Prim.Native.Nat.{ℕ, _<_, _≤_, _+_, _-_, _*_}
+use native.Mathlib.Numerals.{add-one}
+use native.Mathlib.Omega.{arith}
+use lib.IntN.{ℤ, pos}
+use lib.ListN.{length, take, drop, getD, set, length-set, take-append-drop}
+use lib.Seq.{length-take-le, take-suc-set}
+use mir.Syntax.{w32}
+use mir.Val.{SFits}
+use mir.ValLaws.{toZ-ofZ}
+use Rattle.model.specs.Panel.{idCount, perSlot, records}
+use Rattle.model.specs.Numbers.{eqZ}
+use Rattle.model.specs.Table.{ids, unheld}
+use Rattle.model.specs.Frame.{Fate, fate, next, freeId, rowsFrom, slotAfter, takenAfter, counterAfter, Planned, after, planned}
+use Rattle.model.proofs.Tries.{Same, same-last, planned-same}
+use Rattle.panel.specs.declared.Slot.{Slot}
+use Rattle.common.specs.declared.TrackingId.{TrackingId}
+use Rattle.panel.specs.Seen.{slotOf, tableOf, blank}
+use Rattle.panel.proofs.Apart.{front-holds}
+use Rattle.plan.specs.Row.{begun, held, stayed, plainRow, plainRows, planFrom}
+use Rattle.plan.proofs.Turn as Turn
+use Rattle.plan.proofs.Turn.{begun-slot, stayed-slot, begun-taken, begun-counter, stayed-taken, stayed-counter}
+use Rattle.plan.proofs.give_ids.Statement.{statement}
+use Rattle.plan.proofs.give_ids.Tie as tie
+
+-- The first s slots are made, and what is left is what was left at the start.
+record Made (n : ℕ) (frame : List ℤ) (promised : Planned) (taken : List ℤ) (m : ℕ) (t : List Slot) (k s : ℕ) : Type 0 where
+  inside : s ≤ n
+  fewTaken : m ≤ records + s
+  counts : k < idCount
+  slots : length t ≡ records
+  places : length taken ≡ 2 * records
+  plain : plainRows (rowsFrom perSlot (n - s) frame (perSlot * s)) ≡ true
+  whole : promised ≡ planFrom (take m taken) k n frame t s
+
+abbrev Inv-loop : tie.InvT-loop
+Inv-loop n counter frame from taken₀ m₀ t₀ k₀ s₀ taken m t k s = Made n frame (planFrom (take m₀ taken₀) k₀ n frame t₀ s₀) taken m t k s
+
+abbrev μ-loop : tie.MeasureT-loop
+μ-loop n counter frame from taken₀ m₀ t₀ k₀ s₀ taken m t k s = n - s
+
+-- ---- places
+
+-- Where both arms of the loop start: slot s and the kind of its row are read, and it is known whether a contact begins.
+abbrev Row : Type 0
+Row = tie.After-begins Inv-loop μ-loop
+
+-- The turn of the loop that it is in, the loop's locals before the turn, and where the call starts.
+abbrev turn : Row → tie.In-loop Inv-loop μ-loop
+turn b = b .before .before .before .before
+
+abbrev top : Row → tie.At-loop Inv-loop μ-loop
+top b = turn b .before
+
+abbrev start : Row → tie.Start Inv-loop μ-loop
+start b = top b .before .before
+
+-- The arm in which a contact begins: it is known to, its id is chosen, held as an id, and the slot is made.
+abbrev Begun : Type 0
+Begun = tie.After-after Inv-loop μ-loop
+
+abbrev made : Begun → tie.After-contact Inv-loop μ-loop
+made c = c .before .before
+
+abbrev named : Begun → tie.After-id-of Inv-loop μ-loop
+named c = made c .before .before .before .before
+
+abbrev chosen : Begun → tie.After-choose Inv-loop μ-loop
+chosen c = named c .before
+
+abbrev beginning : Begun → tie.Then1 Inv-loop μ-loop
+beginning c = chosen c .before .before
+
+-- The other arm.
+abbrev Stayed : Type 0
+Stayed = tie.After-stays Inv-loop μ-loop
+
+abbrev staying : Stayed → tie.Else1 Inv-loop μ-loop
+staying c = c .before .before .before .before
+
+-- ---- slot s and its row
+
+abbrev fr : Row → List ℤ
+fr b = start b .args .frame .now
+
+abbrev n : Row → ℕ
+n b = start b .args .n
+
+abbrev s : Row → ℕ
+s b = top b .loop .s
+
+abbrev t : Row → List Slot
+t b = top b .loop .t
+
+abbrev number : ℕ → Row → ℤ
+number i b = Turn.number (fr b) (s b) i
+
+abbrev kind : Row → ℤ
+kind b = Turn.kind (fr b) (s b)
+
+abbrev was : Row → Slot
+was b = getD (t b) (s b) blank
+
+abbrev becomes : Row → Fate
+becomes b = fate (kind b) (was b .id .0)
+
+-- The ids taken so far, and the id that a contact that begins here takes.
+abbrev taken : Row → List ℤ
+taken b = take (top b .loop .m) (top b .loop .taken)
+
+abbrev given : Row → ℕ
+given b = freeId (taken b) (top b .loop .k)
+
+-- What was to be planned from the start.
+abbrev promised : Row → Planned
+promised b =
+    let a = start b .args in
+    planFrom (take (n b) (top b .before .ids-of .result)) (a .counter) (n b) (fr b) (a .made) (a .from)
+
+known : (b : Row) → Made (n b) (fr b) (promised b) (top b .loop .taken) (top b .loop .m) (t b) (top b .loop .k) (s b)
+known b = top b .loop .inv
+
+below : (b : Row) → s b < n b
+below b = turn b .loop-test .taken
+
+inside : (b : Row) → s b < length (t b)
+inside b = omega (arith, below b, known b .slots, start b .pre .0 .few)
+
+-- There is a place left among the taken ids.
+placed : (b : Row) → top b .loop .m < length (top b .loop .taken)
+placed b = omega (arith, below b, known b .fewTaken, known b .places, start b .pre .0 .few)
+
+begins-is : (b : Row) → b .begins .result ≡ begun (becomes b)
+begins-is b =
+    let f : SFits w32 (kind b) = search needs in
+    rw (toZ-ofZ w32 (kind b) f) at (b .begins .ensures)
+
+plain : (b : Row) → plainRow (Turn.row (fr b) (s b)) ≡ true
+plain b = Turn.plain-row (fr b) (s b) (n b) (below b) (known b .plain)
+
+-- What is left to make, once the slot is w, the ids taken are `more` and the counter is k.
+turned : (b : Row) (w : Slot) (more : List ℤ) (k : ℕ)
+    → slotOf w ≡ slotAfter (becomes b) (given b) (slotOf (was b)) (number 1 b ∷ number 2 b ∷ number 3 b ∷ [])
+    → Same (takenAfter (becomes b) (given b) (taken b)) more → counterAfter (becomes b) (given b) (top b .loop .k) ≡ k
+    → promised b ≡ planFrom more k (n b) (fr b) (set (t b) (s b) w) (s b + 1)
+turned b w more k e same count =
+    known b .whole ∙ Turn.row-turn (fr b) (s b) (n b) (below b) (taken b) (top b .loop .k) (t b) (inside b) w more k e same count
+
+-- ---- the needs
+
+ids-of-requires : tie.Need-ids-of-requires Inv-loop μ-loop
+ids-of-requires c κs = search needs
+
+loop-holds : tie.Need-loop-holds Inv-loop μ-loop
+loop-holds c =
+    let a = c .before .args in
+    let g = c .before .pre .0 in
+    let lt : length (a .made) ≡ records = search needs in
+    let ll : length (c .ids-of .result) ≡ 2 * records = search needs in
+    record {
+      inside = g .inside;
+      fewTaken = omega (arith, g .few);
+      counts = g .counts;
+      slots = lt;
+      places = ll;
+      plain = g .plain;
+      whole = refl;
+    }
+
+mul-i : tie.Need-mul-i Inv-loop μ-loop
+mul-i c = search needs
+
+mul-kind : tie.Need-mul-kind Inv-loop μ-loop
+mul-kind c = search needs
+
+shared-slice-copy-out-kind : tie.Need-shared-slice-copy-out-kind Inv-loop μ-loop
+shared-slice-copy-out-kind c = search needs
+
+mul-was : tie.Need-mul-was Inv-loop μ-loop
+mul-was c = search needs
+
+array-copy-out-was : tie.Need-array-copy-out-was Inv-loop μ-loop
+array-copy-out-was c = search needs
+
+begins-requires : tie.Need-begins-requires Inv-loop μ-loop
+begins-requires c κs = search needs
+
+array-share-prefix-taken : tie.Need-array-share-prefix-taken Inv-loop μ-loop
+array-share-prefix-taken c = search needs
+
+slice-aggregate-choose : tie.Need-slice-aggregate-choose Inv-loop μ-loop
+slice-aggregate-choose c =
+    let b = c .before .before in
+    let fit : top b .loop .m ≤ length (top b .loop .taken) = omega (arith, placed b) in
+    sym (length-take-le (top b .loop .m) (top b .loop .taken) fit)
+
+choose-requires : tie.Need-choose-requires Inv-loop μ-loop
+choose-requires c κs =
+    let b = c .before .before in
+    let fit : top b .loop .m ≤ length (top b .loop .taken) = omega (arith, placed b) in
+    let few : length (taken b) ≡ top b .loop .m = length-take-le (top b .loop .m) (top b .loop .taken) fit in
+    (omega (arith, placed b, known b .places), known b .counts)
+
+id-of-requires : tie.Need-id-of-requires Inv-loop μ-loop
+id-of-requires c κs = search needs
+
+add-contact : tie.Need-add-contact Inv-loop μ-loop
+add-contact c = search needs
+
+mul-contact : tie.Need-mul-contact Inv-loop μ-loop
+mul-contact c = search needs
+
+shared-slice-copy-out-contact : tie.Need-shared-slice-copy-out-contact Inv-loop μ-loop
+shared-slice-copy-out-contact c = search needs
+
+add-contact-2 : tie.Need-add-contact-2 Inv-loop μ-loop
+add-contact-2 c = search needs
+
+mul-contact-2 : tie.Need-mul-contact-2 Inv-loop μ-loop
+mul-contact-2 c = search needs
+
+shared-slice-copy-out-contact-2 : tie.Need-shared-slice-copy-out-contact-2 Inv-loop μ-loop
+shared-slice-copy-out-contact-2 c = search needs
+
+add-contact-3 : tie.Need-add-contact-3 Inv-loop μ-loop
+add-contact-3 c = search needs
+
+mul-contact-3 : tie.Need-mul-contact-3 Inv-loop μ-loop
+mul-contact-3 c = search needs
+
+shared-slice-copy-out-contact-3 : tie.Need-shared-slice-copy-out-contact-3 Inv-loop μ-loop
+shared-slice-copy-out-contact-3 c = search needs
+
+contact-requires : tie.Need-contact-requires Inv-loop μ-loop
+contact-requires c κs = search needs
+
+mul-t : tie.Need-mul-t Inv-loop μ-loop
+mul-t c = search needs
+
+array-set-from-t : tie.Need-array-set-from-t Inv-loop μ-loop
+array-set-from-t c = search needs
+
+mul-taken : tie.Need-mul-taken Inv-loop μ-loop
+mul-taken c = search needs
+
+array-set-from-taken : tie.Need-array-set-from-taken Inv-loop μ-loop
+array-set-from-taken c = search needs
+
+add-m : tie.Need-add-m Inv-loop μ-loop
+add-m c = search needs
+
+after-requires : tie.Need-after-requires Inv-loop μ-loop
+after-requires c κs = search needs
+
+add-s : tie.Need-add-s Inv-loop μ-loop
+add-s c = search needs
+
+loop-less : tie.Need-loop-less Inv-loop μ-loop
+loop-less c = search needs
+
+loop-again : tie.Need-loop-again Inv-loop μ-loop
+loop-again c =
+    let b = beginning c .before in
+    let j = given b in
+    let f1 : SFits w32 (number 1 b) = search needs in
+    let f2 : SFits w32 (number 2 b) = search needs in
+    let f3 : SFits w32 (number 3 b) = search needs in
+    let yes : begun (becomes b) ≡ true = sym (begins-is b) ∙ beginning c .if1 .taken in
+    let id = named c .id-of in
+    let ji : chosen c .choose .result ≡ j = chosen c .choose .ensures .1 in
+    let fi : SFits w32 (id .result .0) = search needs in
+    let v : id .result .0 ≡ pos j = ap (λ (x : TrackingId). x .0) (id .ensures) ∙ ap pos ji in
+    let w = made c .contact .result in
+    let e : w ≡ held (pos j) (number 1 b) (number 2 b) (number 3 b) =
+    (rw (toZ-ofZ w32 (number 1 b) f1, toZ-ofZ w32 (number 2 b) f2, toZ-ofZ w32 (number 3 b) f3) at (made c .contact .ensures))
+    ∙ ap (λ i. held i (number 1 b) (number 2 b) (number 3 b)) v in
+    let m = top b .loop .m in
+    let more = take (m + 1) (set (top b .loop .taken) m (pos j)) in
+    let last : more ≡ taken b ++ pos j ∷ [] = rw add-one (take-suc-set (top b .loop .taken) m (pos j) (placed b)) in
+    let same : Same (takenAfter (becomes b) j (taken b)) more = rw (last, begun-taken (becomes b) j (taken b) yes) (same-last (pos j) (taken b)) in
+    let count : counterAfter (becomes b) j (top b .loop .k) ≡ c .after .result =
+    begun-counter (becomes b) j (top b .loop .k) yes ∙ sym (c .after .ensures ∙ ap next ji) in
+    let slot = ap slotOf e ∙ begun-slot (was b) (number 1 b) (number 2 b) (number 3 b) j (kind b) yes (plain b) in
+    rw (toZ-ofZ w32 (id .result .0) fi, v) (record {
+      inside = omega (arith, below b);
+      fewTaken = omega (arith, known b .fewTaken);
+      counts = omega (arith, c .after .ensures);
+      slots = length-set (t b) (s b) w ∙ known b .slots;
+      places = length-set (top b .loop .taken) m (pos j) ∙ known b .places;
+      plain = Turn.plain-rest (fr b) (s b) (n b) (below b) (known b .plain);
+      whole = turned b w more (c .after .result) slot same count;
+    })
+
+add-stays : tie.Need-add-stays Inv-loop μ-loop
+add-stays c = search needs
+
+mul-stays : tie.Need-mul-stays Inv-loop μ-loop
+mul-stays c = search needs
+
+shared-slice-copy-out-stays : tie.Need-shared-slice-copy-out-stays Inv-loop μ-loop
+shared-slice-copy-out-stays c = search needs
+
+add-stays-2 : tie.Need-add-stays-2 Inv-loop μ-loop
+add-stays-2 c = search needs
+
+mul-stays-2 : tie.Need-mul-stays-2 Inv-loop μ-loop
+mul-stays-2 c = search needs
+
+shared-slice-copy-out-stays-2 : tie.Need-shared-slice-copy-out-stays-2 Inv-loop μ-loop
+shared-slice-copy-out-stays-2 c = search needs
+
+add-stays-3 : tie.Need-add-stays-3 Inv-loop μ-loop
+add-stays-3 c = search needs
+
+mul-stays-3 : tie.Need-mul-stays-3 Inv-loop μ-loop
+mul-stays-3 c = search needs
+
+shared-slice-copy-out-stays-3 : tie.Need-shared-slice-copy-out-stays-3 Inv-loop μ-loop
+shared-slice-copy-out-stays-3 c = search needs
+
+stays-requires : tie.Need-stays-requires Inv-loop μ-loop
+stays-requires c κs = search needs
+
+mul-t-2 : tie.Need-mul-t-2 Inv-loop μ-loop
+mul-t-2 c = search needs
+
+array-set-from-t-2 : tie.Need-array-set-from-t-2 Inv-loop μ-loop
+array-set-from-t-2 c = search needs
+
+add-s-2 : tie.Need-add-s-2 Inv-loop μ-loop
+add-s-2 c = search needs
+
+loop-less-2 : tie.Need-loop-less-2 Inv-loop μ-loop
+loop-less-2 c = search needs
+
+loop-again-2 : tie.Need-loop-again-2 Inv-loop μ-loop
+loop-again-2 c =
+    let b = staying c .before in
+    let f0 : SFits w32 (kind b) = search needs in
+    let f1 : SFits w32 (number 1 b) = search needs in
+    let f2 : SFits w32 (number 2 b) = search needs in
+    let f3 : SFits w32 (number 3 b) = search needs in
+    let no : begun (becomes b) ≡ false = sym (begins-is b) ∙ staying c .if1 .left in
+    let w = c .stays .result in
+    let e : w ≡ stayed (eqZ (kind b) (pos 0)) (was b) (number 1 b) (number 2 b) (number 3 b) =
+    rw (toZ-ofZ w32 (kind b) f0, toZ-ofZ w32 (number 1 b) f1, toZ-ofZ w32 (number 2 b) f2, toZ-ofZ w32 (number 3 b) f3) at (c .stays .ensures) in
+    let same : Same (takenAfter (becomes b) (given b) (taken b)) (taken b) = rw (stayed-taken (becomes b) (given b) (taken b) no) (λ i. refl) in
+    let count : counterAfter (becomes b) (given b) (top b .loop .k) ≡ top b .loop .k = stayed-counter (becomes b) (given b) (top b .loop .k) no in
+    let slot = ap slotOf e ∙ stayed-slot (was b) (number 1 b) (number 2 b) (number 3 b) (given b) (kind b) no (plain b) in
+    record {
+      inside = omega (arith, below b);
+      fewTaken = omega (arith, known b .fewTaken);
+      counts = known b .counts;
+      slots = length-set (t b) (s b) w ∙ known b .slots;
+      places = known b .places;
+      plain = Turn.plain-rest (fr b) (s b) (n b) (below b) (known b .plain);
+      whole = turned b w (taken b) (top b .loop .k) slot same count;
+    }
+
+returns : tie.Need-returns Inv-loop μ-loop
+returns c =
+    let l = c .before .loop in
+    let b = c .before .before in
+    let a = b .before .args in
+    let held = take (a .n) (b .ids-of .result) in
+    let rows = rowsFrom perSlot (a .n - a .from) (a .frame .now) (perSlot * a .from) in
+    -- the ids that are gathered are those of the old table
+    let same : Same (ids (tableOf (a .old))) held =
+    λ k. front-holds (a .old) (a .n) (b .before .pre .1) (pos k) refl ∙ ap (unheld (pos k)) (sym (b .ids-of .ensures)) in
+    let gathered = planned-same (ids (tableOf (a .old))) held (a .counter) rows (tableOf (drop (a .from) (a .made))) same in
+    sym (ap (after (tableOf (take (a .from) (a .made)))) gathered ∙ l .inv .whole
+    ∙ Turn.no-row (take (l .m) (l .taken)) (l .k) (a .n) (a .frame .now) (l .t) (l .s) (c .loop-test .left))
+
+pub give-ids-spec : {M : Type 1} → statement M
+give-ids-spec =
+    tie.close
+    (tie.spec
+    Inv-loop
+    μ-loop
+    ids-of-requires
+    loop-holds
+    mul-i
+    mul-kind
+    shared-slice-copy-out-kind
+    mul-was
+    array-copy-out-was
+    begins-requires
+    array-share-prefix-taken
+    slice-aggregate-choose
+    choose-requires
+    id-of-requires
+    add-contact
+    mul-contact
+    shared-slice-copy-out-contact
+    add-contact-2
+    mul-contact-2
+    shared-slice-copy-out-contact-2
+    add-contact-3
+    mul-contact-3
+    shared-slice-copy-out-contact-3
+    contact-requires
+    mul-t
+    array-set-from-t
+    mul-taken
+    array-set-from-taken
+    add-m
+    after-requires
+    add-s
+    loop-less
+    loop-again
+    add-stays
+    mul-stays
+    shared-slice-copy-out-stays
+    add-stays-2
+    mul-stays-2
+    shared-slice-copy-out-stays-2
+    add-stays-3
+    mul-stays-3
+    shared-slice-copy-out-stays-3
+    stays-requires
+    mul-t-2
+    array-set-from-t-2
+    add-s-2
+    loop-less-2
+    loop-again-2
+    returns)
