@@ -2,6 +2,7 @@
 --
 -- What is computed: Bench (P1 to P9), AtReport (when the shown table changes), FirstBytes (the pod's 256 first bytes), Instances (document 01's layout).
 -- Tools: Bools, Tables, Rows, Counts, Order (the loop over set bits), Layouts.
+-- 02's requests: SelfTest (K3, the pod's wait).
 -- Demand 1, refusals: Exact (each number if and only if its test fails), Calls and Answers (what each call answers), Pod for the pod.
 -- Demand 2, reading back: Follow, Codes, ReadsBack, Bytes, Shows (what is counted), Link (in bytes, of the calls).
 -- Demand 2, a loss: Lost (what loses track, and that nothing brings it back), Loss (of events), Chain (of calls, until a load).
@@ -39,5 +40,6 @@ pub mod Shows
 pub mod Link
 pub mod FirstBytes
 pub mod Pod
+pub mod SelfTest
 pub mod Limits
 pub mod Instances
