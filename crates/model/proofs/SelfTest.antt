@@ -36,6 +36,11 @@ steps-alike : (s : State) (b : ℕ) → amended (s .waits) (firstOf (heldIn s) b
 unfolding stepBy fed
 steps-alike s b e = ap (λ k. cond (wellFormed s) (accepted (s .waits) (fedTo k (heldIn s ++ b ∷ []))) (refusing s)) e
 
+-- A state that is not well formed is refused by both.
+pub refused-alike : (s : State) (b : ℕ) → wellFormed s ≡ false → step s b ≡ stepBy unamended s b
+unfolding stepBy
+refused-alike s b e = rw e
+
 -- ---- a state that does not wait
 
 -- It reads a byte exactly as document 01's machine does.
