@@ -1,4 +1,4 @@
-//! Panel and pod events, written from document 01 alone: what the proved library is compared with.
+//! Panel and pod events, written from documents 01 and 02 alone: what the proved library is compared with.
 //!
 //! The rules: [`refusal`], [`table`], [`events`], [`reader`], [`writer`], [`pod`].
 //! The programs: [`streams`], [`programs`]. The comparison: [`script`], [`maker`], [`random`], [`noise`], [`smaller`], [`tally`].

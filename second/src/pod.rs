@@ -5,9 +5,13 @@ use crate::refusal::Refusal;
 /// How many bytes of an unfinished report can be held: one less than the longest has.
 pub const PLACES: usize = 5;
 
-/// A pod's state, well formed or not: the unfinished report.
+/// What a pod sends after power-up or reset where its self-test passed; from then on it is a key that comes up.
+pub const SELF_TEST: u8 = 0xF0;
+
+/// A pod's state, well formed or not: whether the self-test is waited for, and the unfinished report.
 #[derive(Clone, Copy, PartialEq, Eq, Debug)]
 pub struct Pod {
+    pub waits: bool,
     pub held: u64,
     pub bytes: [u8; PLACES],
 }
@@ -23,6 +27,7 @@ pub struct Stick {
 #[derive(Clone, Copy, PartialEq, Eq, Debug)]
 pub enum Report {
     More,
+    SelfTestPassed,
     Down(u8),
     Up(u8),
     Absolute { flags: u8, x: u16, y: u16 },
@@ -44,13 +49,18 @@ pub fn length(first: u8) -> u64 {
 }
 
 impl Pod {
-    /// The state at the start and after each whole report.
-    pub const FRESH: Pod = Pod { held: 0, bytes: [0; PLACES] };
+    /// The state at the start.
+    pub const FRESH: Pod = Pod { waits: true, held: 0, bytes: [0; PLACES] };
 
-    /// Whether [`Pod::take`] takes this state; refusal 2 where it is not.
+    /// The state that holds no byte and waits as this one does: after each whole report.
+    pub fn without_bytes(self) -> Pod {
+        Pod { waits: self.waits, ..Pod::FRESH }
+    }
+
+    /// Whether [`Pod::take`] takes this state; refusal 2 where it is not. Both values of `waits` are good.
     pub fn is_well_formed(&self) -> bool {
         if self.held == 0 {
-            return *self == Pod::FRESH;
+            return *self == self.without_bytes();
         }
         // No report is longer than six bytes, so this keeps `held` to the five places too.
         self.held < length(self.bytes[0]) && self.bytes[self.held as usize..].iter().all(|b| *b == 0)
@@ -68,8 +78,12 @@ impl Pod {
             return Ok(Report::More);
         }
         let [_, b1, b2, b3, b4] = self.bytes;
-        *self = Pod::FRESH;
+        *self = self.without_bytes();
         Ok(match first {
+            SELF_TEST if self.waits => {
+                self.waits = false;
+                Report::SelfTestPassed
+            }
             0x01..=0x75 => Report::Down(first),
             0x81..=0xF5 => Report::Up(first - 0x80),
             0xF7 if b1 & 0xF0 != 0 => Report::BadReport,

@@ -30,8 +30,8 @@ pub const TABLE_NUMBERS: usize = SLOTS * SLOT_NUMBERS;
 pub const READER_NUMBERS: usize = HEAD_NUMBERS + 2 * TABLE_NUMBERS;
 /// The head and the table.
 pub const WRITER_NUMBERS: usize = HEAD_NUMBERS + TABLE_NUMBERS;
-/// How many bytes are held, and the places.
-pub const POD_NUMBERS: usize = 1 + PLACES;
+/// Whether it waits, how many bytes are held, and the places.
+pub const POD_NUMBERS: usize = 2 + PLACES;
 
 /// One line of a script, with the whole state that it carries.
 #[derive(Clone, PartialEq, Eq, Debug)]
@@ -249,6 +249,7 @@ impl fmt::Display for InWords {
     fn fmt(&self, f: &mut fmt::Formatter) -> fmt::Result {
         match self.0 {
             Report::More => f.write_str("more"),
+            Report::SelfTestPassed => f.write_str("self-test passed"),
             Report::Down(key) => write!(f, "down {key}"),
             Report::Up(key) => write!(f, "up {key}"),
             Report::Absolute { flags, x, y } => write!(f, "absolute {flags} {x} {y}"),
@@ -328,7 +329,12 @@ impl Numbers {
     }
 
     fn pod(&mut self) -> Option<Pod> {
-        let mut pod = Pod { held: self.one()?, bytes: [0; PLACES] };
+        let waits = match self.0.next()? {
+            0 => false,
+            1 => true,
+            _ => return None,
+        };
+        let mut pod = Pod { waits, held: self.one()?, bytes: [0; PLACES] };
         for byte in &mut pod.bytes {
             *byte = self.one()?;
         }
@@ -403,6 +409,7 @@ impl Line {
     }
 
     fn pod(&mut self, pod: &Pod) {
+        self.put(pod.waits as u8);
         self.put(pod.held);
         self.all(&pod.bytes);
     }
@@ -473,8 +480,11 @@ mod tests {
             "fresh -1 2 3 4".to_string(),
             "fresh 1 2 3 4294967296".to_string(),
             "fresh 18446744073709551616 2 3 4".to_string(),
-            "pod 0 0 0 0 0 0 256".to_string(),
-            "pod 0 0 0 0 0 0".to_string(),
+            "pod 0 0 0 0 0 0 0 256".to_string(),
+            "pod 0 0 0 0 0 0 0".to_string(),
+            "pod 2 0 0 0 0 0 0 1".to_string(),
+            "pod -1 0 0 0 0 0 0 1".to_string(),
+            "pod 256 0 0 0 0 0 0 1".to_string(),
             "start 0".to_string(),
             format!("write 1 9 9 9 0 0 {table}0 4097 0 0 0 0"),
             format!("write 1 9 9 9 0 0 {table}0 0 0 0 0 2147483648"),
@@ -496,7 +506,7 @@ mod tests {
             "one" => format!("{reader}3 57 0"),
             "load" | "ask" => format!("{reader}0"),
             "write" => format!("1 9 9 9 0 0 {table}0 0 0 0 0 0"),
-            "pod" => "0 0 0 0 0 0 1".to_string(),
+            "pod" => "0 0 0 0 0 0 0 1".to_string(),
             _ => String::new(),
         };
         for name in ["fresh", "new", "run", "one", "load", "ask", "good", "write", "start", "pod"] {
@@ -519,9 +529,10 @@ mod tests {
         assert_eq!(answer("fresh  1 2  3 4"), answer("fresh 1 2 3 4"));
         assert_eq!(answer(" fresh 01 2 3 4 "), answer("fresh 1 2 3 4"));
         assert_eq!(answer("new -0 2 3 4"), answer("new 0 2 3 4"));
-        assert_eq!(answer("pod 0 0 0 0 0 0 1"), "0 0 0 0 0 0 down 1");
-        assert_eq!(answer("pod 1 255 0 0 0 0 16 245"), "0 0 0 0 0 0 bad report / 0 0 0 0 0 0 up 117");
-        assert_eq!(answer("start"), "0 0 0 0 0 0");
+        assert_eq!(answer("pod 0 0 0 0 0 0 0 1"), "0 0 0 0 0 0 0 down 1");
+        assert_eq!(answer("pod 1 1 255 0 0 0 0 16 245"), "1 0 0 0 0 0 0 bad report / 1 0 0 0 0 0 0 up 117");
+        assert_eq!(answer("pod 1 0 0 0 0 0 0 240 240"), "0 0 0 0 0 0 0 self-test passed / 0 0 0 0 0 0 0 up 112");
+        assert_eq!(answer("start"), "1 0 0 0 0 0 0");
         let full = MOST_NUMBERS - READER_NUMBERS;
         let table = UNUSED.repeat(16);
         assert!(answer(&format!("run 1 9 9 9 0 0 {table}{table}{}", "0 ".repeat(full))).starts_with("6 "));

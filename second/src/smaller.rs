@@ -1,6 +1,7 @@
 //! Smaller calls than one that was answered differently: what is tried to find the shortest script that shows a difference.
 
 use crate::events::{events, Event, ABS_MT_SLOT, EV_ABS, RECORD};
+use crate::pod::Pod;
 use crate::reader::{Mode, Reader};
 use crate::script::Call;
 use crate::table::{Setup, Slot, SlotNumber, Table, SLOTS, SLOT_NUMBERS};
@@ -23,7 +24,11 @@ pub fn smaller(call: &Call) -> Vec<Call> {
 }
 
 fn verdict_of(call: &Call) -> Option<String> {
-    call.answer().split(' ').next().map(str::to_string)
+    match call {
+        // Its answer begins with a state.
+        Call::Pod { pod, .. } => Some(pod.is_well_formed().to_string()),
+        _ => call.answer().split(' ').next().map(str::to_string),
+    }
 }
 
 /// Fewer numbers first, then more of them plain, then fewer slots, then fewer digits. Every candidate taken makes it smaller, so shrinking ends.
@@ -46,6 +51,7 @@ fn candidates(call: &Call, give: &mut dyn FnMut(Call)) {
     match call {
         Call::Fresh(_) | Call::New(_) | Call::Start => {}
         Call::Pod { pod, bytes } => {
+            give(Call::Pod { pod: Pod { waits: false, ..*pod }, bytes: bytes.clone() });
             // One byte at least; the first may be left out where the state after it is given instead.
             let mut after = *pod;
             if bytes.len() > 1 && after.take(bytes[0]).is_ok() {

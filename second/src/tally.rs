@@ -61,8 +61,9 @@ const EXPECTED: &[&str] = &[
     "write: no room, a need",
     "write: no room, no need",
     "write: the counter wrapped",
-    "start 0",
+    "start 1",
     "pod more",
+    "pod self-test passed",
     "pod down",
     "pod up",
     "pod absolute",
@@ -73,6 +74,7 @@ const EXPECTED: &[&str] = &[
     "pod bad byte",
     "pod bad report",
     "pod refused 2",
+    "pod: key 112 up",
     "pod: dx -128",
     "pod: dy -128",
     BAD_LINE,
@@ -97,9 +99,10 @@ impl<'a> Words<'a> {
         self.0.get(place).copied().unwrap_or("")
     }
 
-    /// The mode of the reader that stands in it.
+    /// The mode of the reader that stands in it. A call may have it with zeros in front, and 0 as `-0`.
     fn mode(&self) -> &'static str {
-        self.at(HEAD_NUMBERS).parse().ok().and_then(|mode: usize| MODES.get(mode)).unwrap_or(&"no mode")
+        let number = self.at(HEAD_NUMBERS).parse().ok().and_then(|mode: i64| usize::try_from(mode).ok());
+        number.and_then(|mode| MODES.get(mode)).unwrap_or(&"no mode")
     }
 }
 
@@ -171,10 +174,13 @@ impl Tally {
         let said: Vec<&str> = step.split(' ').collect();
         let words = said.get(POD_NUMBERS..).unwrap_or(&[]);
         let kept = match words.first() {
-            Some(&("bad" | "stick" | "refused")) => 2,
+            Some(&("self-test" | "bad" | "stick" | "refused")) => 2,
             _ => 1,
         };
         self.note(format!("pod {}", words[..kept.min(words.len())].join(" ")));
+        if words == ["up", "112"] {
+            self.note("pod: key 112 up".to_string());
+        }
         if let ["relative", _, _, dx, dy] = words {
             for (name, moved) in [("dx", dx), ("dy", dy)] {
                 if *moved == "-128" {
@@ -283,7 +289,20 @@ mod tests {
     #[test]
     fn any_line_with_any_answer_is_counted() {
         let names = ["fresh", "new", "run", "one", "load", "ask", "good", "write", "start", "pod", "  ", "stop"];
-        let answers = ["", " ", "0", "5", "7", "unknown", "contact", "0 0 0 0 0 0 relative", " / ", "bad line", "-1 x"];
+        let answers = [
+            "",
+            " ",
+            "0",
+            "5",
+            "7",
+            "unknown",
+            "contact",
+            "0 0 0 0 0 0 0 relative",
+            "0 0 0 0 0 0 0 self-test",
+            " / ",
+            "bad line",
+            "-1 x",
+        ];
         for name in names {
             for answer in answers {
                 let tally = Tally::of(&format!("{name}\n"), &format!("{answer}\n")).unwrap();

@@ -168,56 +168,64 @@ fn asked_in_order() {
     assert_eq!(reader.ask(SlotNumber(u64::MAX)), Ok(Asked::NoSuchSlot));
 }
 
+/// Whatever a pod waits for, it is well formed or not by its bytes alone.
 #[test]
 fn pods() {
-    let pod = |held, bytes| Pod { held, bytes };
-    for broken in [
-        pod(0, [1, 0, 0, 0, 0]),
-        pod(0, [0xF8, 0, 0, 0, 0]),
-        pod(1, [0, 0, 0, 0, 0]),
-        pod(1, [0x75, 0, 0, 0, 0]),
-        pod(1, [0xFC, 0, 0, 0, 0]),
-        pod(1, [0xF8, 1, 0, 0, 0]),
-        pod(2, [0xFE, 0, 0, 0, 0]),
-        pod(3, [0xFD, 0, 0, 0, 0]),
-        pod(5, [0xFB, 0, 0, 0, 0]),
-        pod(6, [0xF7, 0, 0, 0, 0]),
-        pod(257, [0xF7, 0, 0, 0, 0]),
-        pod(u64::MAX, [0xF7, 0, 0, 0, 0]),
-    ] {
-        let mut state = broken;
-        assert_eq!(state.take(0), Err(Refusal::State), "{broken:?}");
-        assert_eq!(state, broken);
+    for waits in [false, true] {
+        let pod = |held, bytes| Pod { waits, held, bytes };
+        for broken in [
+            pod(0, [1, 0, 0, 0, 0]),
+            pod(0, [0xF0, 0, 0, 0, 0]),
+            pod(0, [0xF8, 0, 0, 0, 0]),
+            pod(1, [0, 0, 0, 0, 0]),
+            pod(1, [0x75, 0, 0, 0, 0]),
+            pod(1, [0xF0, 0, 0, 0, 0]),
+            pod(1, [0xFC, 0, 0, 0, 0]),
+            pod(1, [0xF8, 1, 0, 0, 0]),
+            pod(2, [0xFE, 0, 0, 0, 0]),
+            pod(3, [0xFD, 0, 0, 0, 0]),
+            pod(5, [0xFB, 0, 0, 0, 0]),
+            pod(6, [0xF7, 0, 0, 0, 0]),
+            pod(257, [0xF7, 0, 0, 0, 0]),
+            pod(u64::MAX, [0xF7, 0, 0, 0, 0]),
+        ] {
+            let mut state = broken;
+            for byte in [0, 0xF0] {
+                assert_eq!(state.take(byte), Err(Refusal::State), "{broken:?}");
+                assert_eq!(state, broken);
+            }
+        }
+        // Held bytes are not judged before the last one is there.
+        let mut state = pod(5, [0xF7, 0xFF, 1, 2, 3]);
+        assert_eq!(state.take(4), Ok(Report::BadReport));
+        assert_eq!(state, pod(0, [0; 5]));
     }
-    // Held bytes are not judged before the last one is there.
-    let mut state = pod(5, [0xF7, 0xFF, 1, 2, 3]);
-    assert_eq!(state.take(4), Ok(Report::BadReport));
-    assert_eq!(state, Pod::FRESH);
 }
 
 /// All first bytes, and every cut of what they open.
 #[test]
 fn all_first_bytes() {
-    for first in 0..=255u8 {
-        let mut state = Pod::FRESH;
+    for (waits, first) in [false, true].into_iter().flat_map(|waits| (0..=255u8).map(move |first| (waits, first))) {
+        let mut state = Pod { waits, ..Pod::FRESH };
         let mut bytes = 1;
         let mut report = state.take(first).unwrap();
         while report == Report::More {
-            assert_eq!(state.held, bytes);
+            assert_eq!((state.waits, state.held), (waits, bytes));
             assert!(state.is_well_formed());
             report = state.take(0).unwrap();
             bytes += 1;
         }
-        assert_eq!(state, Pod::FRESH);
+        assert_eq!(state, Pod { waits: waits && first != 0xF0, ..Pod::FRESH });
         let expected = match first {
             0x01..=0x75 => (Report::Down(first), 1),
+            0xF0 if waits => (Report::SelfTestPassed, 1),
             0x81..=0xF5 => (Report::Up(first - 0x80), 1),
             0xF7 => (Report::Absolute { flags: 0, x: 0, y: 0 }, 6),
             0xF8..=0xFB => (Report::Relative { left: first >= 0xFA, right: first % 2 == 1, dx: 0, dy: 0 }, 3),
             0xFD..=0xFF => (report, if first == 0xFD { 3 } else { 2 }),
             _ => (Report::BadByte, 1),
         };
-        assert_eq!((report, bytes), expected, "{first:#x}");
+        assert_eq!((report, bytes), expected, "{first:#x}, waits {waits}");
     }
 }
 

@@ -152,12 +152,12 @@ fn answers_that_differ() {
     let (script, answers) = (folder.join("script"), folder.join("answers"));
     fs::write(&script, "# a pod\nstart\n\n  \n").unwrap();
     for (said, status) in [
-        ("0 0 0 0 0 0\nbad line\n", 0),
-        ("0 0 0 0 0 0\nbad line", 0),
-        ("0 0 0 0 0 0\r\nbad line\n", 1),
-        ("0 0 0 0 0 0\nbad line \n", 1),
-        ("0 0 0 0 0 0\n", 1),
-        ("0 0 0 0 0 0\nbad line\n\n", 1),
+        ("1 0 0 0 0 0 0\nbad line\n", 0),
+        ("1 0 0 0 0 0 0\nbad line", 0),
+        ("1 0 0 0 0 0 0\r\nbad line\n", 1),
+        ("1 0 0 0 0 0 0\nbad line \n", 1),
+        ("1 0 0 0 0 0 0\n", 1),
+        ("1 0 0 0 0 0 0\nbad line\n\n", 1),
     ] {
         fs::write(&answers, said).unwrap();
         let words = ["differ", script.to_str().unwrap(), answers.to_str().unwrap()];

@@ -1,4 +1,5 @@
-// Runs the bench sheet of document 01: a line for each of its Run cases, but the small program's, with every number of the answer. Reads no input.
+// Runs the bench sheet of document 01: a line for each of its Run cases, but the small program's, with every number of the answer, and the cases of 02's requests.
+// Reads no input.
 use common::Mode;
 use common::TrackingId;
 use panel::RECORDS;
@@ -173,13 +174,19 @@ fn say_held(page: &mut [u8], out: Out, count: usize, held: &[u8; 5]) -> Out {
     say_all_bytes(page, a, held)
 }
 
+fn say_wait(page: &mut [u8], out: Out, waits: bool) -> Out {
+    let a = stream::say(page, out, b" waits");
+    words::say_bit(page, a, waits)
+}
+
 fn pod_case(page: &mut [u8], out: Out, name: &[u8], bytes: &[u8]) -> Out {
     let a = say_name(page, out, name);
     let fed = words::feed(page, a, PodState::fresh(), bytes, false);
     let said = fed.out;
     let s = fed.state;
     let held = s.bytes;
-    say_held(page, said, s.count, &held)
+    let b = say_wait(page, said, s.waits);
+    say_held(page, b, s.count, &held)
 }
 
 fn report_cases(page: &mut [u8], out: Out) -> Out {
@@ -206,10 +213,24 @@ fn bad_cases(page: &mut [u8], out: Out) -> Out {
     pod_case(page, c, b"F6", &[0xf6])
 }
 
+// K3: the first 0xF0 that stands as a first byte, and the next; others inside a report.
+fn self_test_cases(page: &mut [u8], out: Out) -> Out {
+    let a = pod_case(page, out, b"F0 F0", &[0xf0, 0xf0]);
+    let b = pod_case(
+        page,
+        a,
+        b"F7 F0 00 00 00 00 F0",
+        &[0xf7, 0xf0, 0x00, 0x00, 0x00, 0x00, 0xf0],
+    );
+    let c = pod_case(page, b, b"F8 F0 F0", &[0xf8, 0xf0, 0xf0]);
+    pod_case(page, c, b"F1", &[0xf1])
+}
+
 fn pod_cases(page: &mut [u8], out: Out) -> Out {
     let a = report_cases(page, out);
     let b = key_cases(page, a);
-    bad_cases(page, b)
+    let c = bad_cases(page, b);
+    self_test_cases(page, c)
 }
 
 fn answer(page: &mut [u8], out: Out) -> Out {

@@ -14,8 +14,9 @@ pub enum Call {
     None,
 }
 
-// What a number may be: 8, 16, 32 or 64 bits, 32 bits with a sign, a mode, a buffer's size; or none, where the call takes no more.
+// What a number may be: 0 or 1, 8, 16, 32 or 64 bits, 32 bits with a sign, a mode, a buffer's size; or none, where the call takes no more.
 pub enum Kind {
+    Bit,
     Bits8,
     Bits16,
     Bits32,
@@ -33,7 +34,7 @@ pub const READER: usize = 134;
 
 pub const WRITER: usize = 70;
 
-pub const POD: usize = 6;
+pub const POD: usize = 7;
 
 // The most numbers of a line, and the bytes of the largest buffer.
 pub const NUMBERS: usize = 12000;
@@ -154,7 +155,8 @@ fn setup_kind(i: usize) -> Kind {
 
 fn pod_kind(i: usize) -> Kind {
     match i {
-        0 => Kind::Bits64,
+        0 => Kind::Bit,
+        1 => Kind::Bits64,
         _ => Kind::Bits8,
     }
 }

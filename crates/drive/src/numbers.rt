@@ -88,6 +88,7 @@ fn negative_fits(kind: Kind, size: u64) -> bool {
 
 fn size_fits(kind: Kind, size: u64) -> bool {
     match kind {
+        Kind::Bit => size < 2,
         Kind::Bits8 => size < 0x100,
         Kind::Bits16 => size < 0x1_0000,
         Kind::Bits32 => size < 0x1_0000_0000,

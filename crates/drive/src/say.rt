@@ -63,11 +63,19 @@ pub fn writer_state(page: &mut [u8], out: Out, s: WriterState) -> Out {
     table(page, c, t)
 }
 
-// A pod's state begins its line.
+// It begins its line.
+fn wait(page: &mut [u8], out: Out, waits: bool) -> Out {
+    if waits {
+        return stream::say(page, out, b"1");
+    }
+    stream::say(page, out, b"0")
+}
+
 pub fn pod_state(page: &mut [u8], out: Out, s: PodState) -> Out {
     let bytes = s.bytes;
-    let a = stream::say_number(page, out, s.count as u64);
-    words::say_bytes(page, a, &bytes)
+    let a = wait(page, out, s.waits);
+    let b = number(page, a, s.count);
+    words::say_bytes(page, b, &bytes)
 }
 
 fn first(page: &mut [u8], out: Out, f: FirstSkipped) -> Out {

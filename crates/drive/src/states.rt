@@ -104,14 +104,15 @@ pub fn writer_of(ns: &[u64]) -> WriterState {
 
 pub fn pod_of(ns: &[u64]) -> PodState {
     PodState {
+        waits: number(ns, 0) == 1,
         bytes: [
-            byte(ns, 1),
             byte(ns, 2),
             byte(ns, 3),
             byte(ns, 4),
             byte(ns, 5),
+            byte(ns, 6),
         ],
-        count: number(ns, 0) as usize,
+        count: number(ns, 1) as usize,
     }
 }
 

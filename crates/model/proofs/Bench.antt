@@ -6,13 +6,15 @@ use Rattle.model.specs.Records.{bitsOf, signedOf, recordBytes, bytesOf, 
 use Rattle.model.specs.Frame.{rowsFrom, freeId}
 use Rattle.model.specs.Reader.{run}
 use Rattle.model.specs.States.{writerGood, readerGood}
-use Rattle.model.specs.Pod.{kindOf, wellFormed, signed, fed, step}
+use Rattle.model.specs.Pod.{kindOf, amended, wellFormed, signed, fed, stepBy}
 use Rattle.model.specs.Calls.{accepted, freshWriterCall, freshReaderCall, writeVerdict, writeCall, writeBuffer, runVerdict, runCall}
-use Rattle.model.specs.Bench.{Row, outcome, pupil, panel, fresh, sheet, replaced}
+use Rattle.model.specs.Bench.{Row, outcome, pupil, panel, fresh, sheet, replaced, selfTests}
 
 -- Every row: the writer's whole answer, every byte of the buffer, and the table read back; or the pod's state and answers.
 sheet-holds : map (λ (r : Row). outcome (r .given)) sheet ≡ map (λ (r : Row). r .gives) sheet
-unfolding kindOf wellFormed signed fed step bitsOf signedOf recordBytes bytesOf eventsFrom lay rowsFrom freeId run writerGood readerGood freshWriterCall writeVerdict writeCall writeBuffer runVerdict runCall
+unfolding kindOf amended wellFormed signed fed stepBy
+    bitsOf signedOf recordBytes bytesOf eventsFrom lay rowsFrom freeId run writerGood readerGood
+    freshWriterCall writeVerdict writeCall writeBuffer runVerdict runCall
 sheet-holds = refl
 
 -- The reader of P1's bytes is what `fresh` answers too.
@@ -24,3 +26,8 @@ fresh-reader = refl
 replaced-holds : outcome (replaced .given) ≡ replaced .gives
 unfolding bitsOf signedOf recordBytes bytesOf eventsFrom lay rowsFrom freeId run writerGood readerGood writeVerdict writeCall writeBuffer runVerdict runCall
 replaced-holds = refl
+
+-- After power-up the first 0xF0 that stands as a first byte says that the self-test passed; the next is a key.
+self-tests-hold : map (λ (r : Row). outcome (r .given)) selfTests ≡ map (λ (r : Row). r .gives) selfTests
+unfolding kindOf amended wellFormed signed fed stepBy
+self-tests-hold = refl

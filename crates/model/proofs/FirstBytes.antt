@@ -1,15 +1,16 @@
--- The table of first bytes: all 256 as one list, by computing; and rows of it by their bounds, for the proof of the crate pod's one decision
--- over a first byte. Assumes nothing.
+-- The table of first bytes: all 256 as one list, by computing, document 01's and K3's; and rows by their bounds, for the proofs of the crate
+-- pod's decisions over a first byte. Assumes nothing.
 use mathlib.Core.Path.{_≡_, refl}
-use mathlib.Core.Bool.{true, false, and-false}
+use mathlib.Core.Bool.{Bool, true, false, and-false}
 use mathlib.Core.List.{List, [], _∷_, _++_, map}
 use Prim.Native.Nat.{ℕ, zero, suc, _-_, _/_, _%_, _≤_, _<_}
 use native.Mathlib.Omega.{arith}
 use lib.Dec.{leb, eqb}
-use lib.ListN.{replicate}
-use borrow.Author.Tests.{le-leb, lt-leb}
+use lib.ListN.{set, replicate}
+use borrow.Author.Tests.{le-leb, lt-leb, ne-eqb}
 use Rattle.model.specs.Numbers.{between}
-use Rattle.model.specs.Pod.{kindOf, keyDownReport, keyUpReport, absoluteReport, relativeReport, bothSticksReport, oneStickReport, badByteReport}
+use Rattle.model.specs.Pod.{kindOf, selfTest, amended, keyDownReport, keyUpReport, absoluteReport, relativeReport, bothSticksReport}
+use Rattle.model.specs.Pod.{oneStickReport, selfTestReport, badByteReport}
 
 -- ---- all 256
 
@@ -28,6 +29,16 @@ pub all-first-bytes : map kindOf (from 0x00 256)
     ∷ badByteReport ∷ bothSticksReport ∷ oneStickReport 0 ∷ oneStickReport 1 ∷ []
 unfolding kindOf
 all-first-bytes = refl
+
+-- In a state that waits each opens the same, but for 0xF0.
+pub all-while-waiting : map (amended true) (from 0x00 256) ≡ set (map kindOf (from 0x00 256)) selfTest selfTestReport
+unfolding kindOf amended
+all-while-waiting = refl
+
+-- In a state that does not wait all of them do.
+pub all-after-wait : map (amended false) (from 0x00 256) ≡ map kindOf (from 0x00 256)
+unfolding amended
+all-after-wait = refl
 
 -- ---- rows by their bounds
 
@@ -90,3 +101,18 @@ module _ (b : ℕ) where
         over 0xfd 0xfd b (omega arith),
         within 0xfe 0xff b l h,
       )
+
+  -- Without a wait every byte goes by 01's table.
+  pub unwaited-row : amended false b ≡ kindOf b
+  unfolding amended
+  unwaited-row = refl
+
+  -- While waiting a 0xF0 is the passed self-test.
+  pub self-test-row : b ≡ selfTest → amended true b ≡ selfTestReport
+  unfolding amended
+  self-test-row e = rw e
+
+  -- Every other byte goes by 01's table there too.
+  pub other-row : (w : Bool) → (b ≡ selfTest → ⊥) → amended w b ≡ kindOf b
+  unfolding amended
+  other-row w h = rw (ne-eqb b selfTest h, and-false w)

@@ -41,6 +41,8 @@
 --   ReaderSteady: events keep a reader well formed.
 --   WriterSteady: good rows keep a writer well formed.
 --   FreshSteady: fresh states are well formed.
+-- Requests of document 02
+--   SelfTest: a pod that waits differs in nothing but its first self-test (K3).
 pub mod Bench
 pub mod AtReport
 pub mod Bools
@@ -73,5 +75,6 @@ pub mod Shows
 pub mod Link
 pub mod FirstBytes
 pub mod Pod
+pub mod SelfTest
 pub mod Limits
 pub mod Instances

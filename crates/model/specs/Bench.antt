@@ -81,8 +81,16 @@ writer n t c k = record { setup = panel n; writer = record { table = t ++ replic
 abbrev pub turns : WriterState → List ℤ → List ℕ → ℕ → ℕ → WriterState → Counts → Row
 turns old f bytes count changed new counts = record {
   given = frame old f (replicate (length bytes) 0);
-  gives = wrote (record { verdict = accepted; state = new; count = count; changed = changed; need = 0 }) bytes (record { verdict = accepted; state = pupil new; counts = counts });
+  gives =
+      wrote
+      (record { verdict = accepted; state = new; count = count; changed = changed; need = 0 })
+      bytes
+      (record { verdict = accepted; state = pupil new; counts = counts });
 }
+
+-- A row: bytes to a fresh pod state, the state that they leave, and the answers other than "more".
+abbrev pub hears : List ℕ → P.State → List P.Report → Row
+hears bytes state reports = record { given = podBytes bytes; gives = heard (record { state = state; reports = reports }) }
 
 -- ---- the states that P1 to P7 lead through
 
@@ -123,7 +131,8 @@ bytes1 =
 abbrev pub sheet : List Row
 sheet =
     turns fresh (kind 1 100 200 30 ++ kind 0 0 0 0) bytes1 5 1 after1 oneShown
-    ∷ turns after1 (kind 1 100 200 30 ++ kind 1 300 400 30) (bytesOf (SLOT (pos 1) ∷ ID (pos 1) ∷ X (pos 300) ∷ Y (pos 400) ∷ PRESSURE (pos 30) ∷ REPORT ∷ [])) 6 2 after2 oneShown
+    ∷ turns after1 (kind 1 100 200 30 ++ kind 1 300 400 30)
+    (bytesOf (SLOT (pos 1) ∷ ID (pos 1) ∷ X (pos 300) ∷ Y (pos 400) ∷ PRESSURE (pos 30) ∷ REPORT ∷ [])) 6 2 after2 oneShown
     ∷ turns after2 (kind 1 101 200 30 ++ kind 1 300 401 30) (bytesOf (Y (pos 401) ∷ SLOT (pos 0) ∷ X (pos 101) ∷ REPORT ∷ [])) 4 3 after3 oneShown
     ∷ turns after3 (kind 0 0 0 0 ++ kind 1 300 401 30) (bytesOf (ID (negsuc 0) ∷ REPORT ∷ [])) 2 1 after4 oneShown
     ∷ turns after4 (kind 1 101 200 30 ++ kind 1 300 401 30) (bytesOf (ID (pos 2) ∷ REPORT ∷ [])) 2 1 after5 oneShown
@@ -137,10 +146,19 @@ sheet =
     5
     (writer 3 (at (pos 65_535) 1 2 3 ∷ at (pos 0) 5 5 5 ∷ at (pos 1) 7 8 9 ∷ []) 2 2)
     oneShown
-    ∷ record { given = podBytes (0xf8 ∷ 0x80 ∷ 0x7f ∷ []); gives = heard (record { state = P.fresh; reports = P.relative false false (negsuc 127) (pos 127) ∷ [] }) }
+    ∷ hears (0xf8 ∷ 0x80 ∷ 0x7f ∷ []) P.fresh (P.relative false false (negsuc 127) (pos 127) ∷ [])
     ∷ []
 
 -- Not marked P, and yet shown: one slot, id 7 live, counter 7, kind 2 with the same numbers. Freeing the replaced id would send nothing.
 abbrev pub replaced : Row
 replaced =
     turns (writer 1 (at (pos 7) 5 5 5 ∷ []) 0 7) (kind 2 5 5 5) (bytesOf (ID (pos 8) ∷ REPORT ∷ [])) 2 1 (writer 1 (at (pos 8) 5 5 5 ∷ []) 0 9) oneShown
+
+-- 02's K3, run cases and yet shown: the first 0xF0 and the next; one inside a report and one after it; two inside a report; 0xF1.
+abbrev pub selfTests : List Row
+selfTests =
+    hears (0xf0 ∷ 0xf0 ∷ []) (P.emptied false) (P.selfTestPassed ∷ P.keyUp 0x70 ∷ [])
+    ∷ hears (0xf7 ∷ 0xf0 ∷ 0x00 ∷ 0x00 ∷ 0x00 ∷ 0x00 ∷ 0xf0 ∷ []) (P.emptied false) (P.badReport ∷ P.selfTestPassed ∷ [])
+    ∷ hears (0xf8 ∷ 0xf0 ∷ 0xf0 ∷ []) P.fresh (P.relative false false (negsuc 15) (negsuc 15) ∷ [])
+    ∷ hears (0xf1 ∷ []) P.fresh (P.keyUp 0x71 ∷ [])
+    ∷ []

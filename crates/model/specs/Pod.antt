@@ -1,15 +1,17 @@
--- Pod reports: the definitions of document 01's part of that name, in its words and order. Cited by the laws of proofs/Pod and by
--- the promises of the crate pod. Assumes nothing.
+-- Pod reports: the definitions of document 01's part of that name, in its words and order, with 02's K3: a fresh state waits for
+-- the pod's "self-test passed". Cited by the laws of proofs/Pod and proofs/SelfTest and by the promises of the crate pod. Assumes nothing.
 --
--- In this file: the table of first bytes (Kind, kindOf, lengthOf); the state (State, heldIn, holding, fresh) and when it is well
--- formed (wellFormed); the answer (Report) with its refusal number and its numbers; the judging of a whole report (judged); a byte
--- after the bytes held (fed), a step of a state (step), a run over bytes (run).
-use mathlib.Core.Bool.{Bool, true, false, cond, _&&_}
+-- In this file: 01's table of first bytes (Kind, kindOf, lengthOf) and K3's (amended); the state (State, heldIn, holding, fresh) and
+-- when it is well formed (wellFormed); the answer (Report) with its refusal number and its numbers; the judging of a whole report
+-- (judged); a byte after the bytes held (fed), a step of a state (stepBy, step), a run over bytes (runBy, run, answersBy). The machine
+-- is one, over any table of first bytes: 01's reads by `unamended`, K3's by `amended`.
+use mathlib.Core.Path.{_≡_}
+use mathlib.Core.Bool.{Bool, true, false, cond, not, _&&_}
 use mathlib.Core.List.{List, [], _∷_, _++_}
-use Prim.Native.Nat.{ℕ, _+_, _-_, _*_, _/_, _%_}
+use Prim.Native.Nat.{ℕ, suc, _+_, _-_, _*_, _/_, _%_}
 use lib.Dec.{leb, ltb, eqb}
 use lib.IntN.{ℤ, pos, negsuc}
-use lib.ListN.{length, getD, take, drop, replicate}
+use lib.ListN.{length, getD, take, drop, set, replicate}
 use Rattle.model.specs.Numbers.{between}
 
 -- ---- the table of first bytes
@@ -21,10 +23,10 @@ pub data Kind : Type 0 where
   relativeReport : Bool → Bool → Kind
   bothSticksReport : Kind
   oneStickReport : ℕ → Kind
-  badByteReport : Kind
+  selfTestReport badByteReport : Kind
 
--- The report that a first byte opens: one decision by ranges, in which bit 1 is left and bit 0 right, 0xFE is stick 0, and a byte
--- in no range is a bad byte.
+-- The report that a first byte opens in document 01: one decision by ranges, in which bit 1 is left and bit 0 right, 0xFE is stick 0,
+-- and a byte in no range is a bad byte.
 unfoldable pub kindOf : ℕ → Kind
 kindOf b =
     cond (between 0x01 0x75 b) (keyDownReport b)
@@ -35,6 +37,19 @@ kindOf b =
     (cond (between 0xfe 0xff b) (oneStickReport (b - 0xfe))
     badByteReport)))))
 
+-- The byte that a pod sends after power-up or reset where its self-test passed.
+abbrev pub selfTest : ℕ
+selfTest = 0xf0
+
+-- The report that a first byte opens in K3, where the state waits or does not: a 0xF0 while waiting is the passed self-test, every
+-- other byte goes by 01's table.
+unfoldable pub amended : Bool → ℕ → Kind
+amended waits b = cond (waits && eqb b selfTest) selfTestReport (kindOf b)
+
+-- 01's table in the same form: it does not look at the wait.
+abbrev pub unamended : Bool → ℕ → Kind
+unamended waits b = kindOf b
+
 -- The length of a report of each kind, its first byte included.
 abbrev pub lengthOf : Kind → ℕ
 lengthOf (keyDownReport key) = 1
@@ -43,6 +58,7 @@ lengthOf absoluteReport = 6
 lengthOf (relativeReport left right) = 3
 lengthOf bothSticksReport = 3
 lengthOf (oneStickReport which) = 2
+lengthOf selfTestReport = 1
 lengthOf badByteReport = 1
 
 -- ---- the state
@@ -51,10 +67,11 @@ lengthOf badByteReport = 1
 abbrev pub places : ℕ
 places = 5
 
--- A state: the bytes in all its places, and how many of them, from the first on, are used. What matters is the list of the bytes
--- held: `heldIn` reads it off a state, `holding` lays it out with 0 in the unused places, and on well-formed states each undoes the
--- other (held-holding and holding-held, in proofs/Pod).
+-- A state: whether it waits for "self-test passed", the bytes in all its places, and how many of them, from the first on, are used.
+-- What matters besides the wait is the list of the bytes held: `heldIn` reads it off a state, `holding` lays it out with 0 in the unused
+-- places, and on well-formed states each undoes the other (held-holding and holding-held, in proofs/Pod).
 pub record State : Type 0 where
+  pub waits : Bool
   pub bytes : List ℕ
   pub count : ℕ
 
@@ -66,13 +83,21 @@ heldIn s = take (s .count) (s .bytes)
 abbrev pub unusedIn : State → List ℕ
 unusedIn s = drop (s .count) (s .bytes)
 
--- The state that holds these bytes, with 0 in its unused places.
-abbrev pub holding : List ℕ → State
-holding held = record { bytes = held ++ replicate (places - length held) 0; count = length held }
+-- The state that waits or does not and holds these bytes, with 0 in its unused places.
+abbrev pub holding : Bool → List ℕ → State
+holding waits held = record { waits = waits; bytes = held ++ replicate (places - length held) 0; count = length held }
 
--- The fresh state holds nothing.
+-- The state that holds nothing.
+abbrev pub emptied : Bool → State
+emptied waits = holding waits []
+
+-- The fresh state holds nothing and waits.
 abbrev pub fresh : State
-fresh = holding []
+fresh = emptied true
+
+-- The state after a reset of the pod, whatever it was before: the fresh one, since the pod then says again that its self-test passed.
+abbrev pub afterReset : State → State
+afterReset s = fresh
 
 -- The first byte held, if any, opens a longer report, and fewer bytes are held than its length.
 abbrev pub unfinished : List ℕ → Bool
@@ -84,7 +109,8 @@ abbrev pub zeros : List ℕ → Bool
 zeros [] = true
 zeros (b ∷ bs) = eqb b 0 && zeros bs
 
--- A state is well formed: it has its places, it holds 0 to 5 bytes, these begin a longer report, and unused places are 0.
+-- A state is well formed: it has its places, it holds 0 to 5 bytes, these begin a longer report, and unused places are 0. It may wait
+-- or not.
 unfoldable pub wellFormed : State → Bool
 wellFormed s = eqb (length (s .bytes)) places && (leb (s .count) places && (unfinished (heldIn s) && zeros (unusedIn s)))
 
@@ -99,7 +125,7 @@ pub data Report : Type 0 where
   relative : Bool → Bool → ℤ → ℤ → Report
   bothSticks : Bool → ℕ → Bool → ℕ → Report
   oneStick : ℕ → Bool → ℕ → Report
-  badByte badReport refused : Report
+  selfTestPassed badByte badReport refused : Report
 
 -- The refusal number of each answer: 2 (STATE) for a state that is not well formed, else 0.
 abbrev pub reportRefusal : Report → ℕ
@@ -110,6 +136,7 @@ reportRefusal (absolute flags x y) = 0
 reportRefusal (relative left right dx dy) = 0
 reportRefusal (bothSticks t0 p0 t1 p1) = 0
 reportRefusal (oneStick which t p) = 0
+reportRefusal selfTestPassed = 0
 reportRefusal badByte = 0
 reportRefusal badReport = 0
 reportRefusal refused = 2
@@ -127,6 +154,7 @@ reportNumbers (absolute flags x y) = pos flags ∷ pos x ∷ pos y ∷ []
 reportNumbers (relative left right dx dy) = digit left ∷ digit right ∷ dx ∷ dy ∷ []
 reportNumbers (bothSticks t0 p0 t1 p1) = digit t0 ∷ pos p0 ∷ digit t1 ∷ pos p1 ∷ []
 reportNumbers (oneStick which t p) = pos which ∷ digit t ∷ pos p ∷ []
+reportNumbers selfTestPassed = []
 reportNumbers badByte = []
 reportNumbers badReport = []
 reportNumbers refused = []
@@ -140,9 +168,28 @@ ends (absolute flags x y) = true
 ends (relative left right dx dy) = true
 ends (bothSticks t0 p0 t1 p1) = true
 ends (oneStick which t p) = true
+ends selfTestPassed = true
 ends badByte = true
 ends badReport = true
 ends refused = false
+
+-- An answer says that the self-test passed.
+abbrev pub passed : Report → Bool
+passed more = false
+passed (keyDown key) = false
+passed (keyUp key) = false
+passed (absolute flags x y) = false
+passed (relative left right dx dy) = false
+passed (bothSticks t0 p0 t1 p1) = false
+passed (oneStick which t p) = false
+passed selfTestPassed = true
+passed badByte = false
+passed badReport = false
+passed refused = false
+
+-- Whether a state waits after an answer: "self-test passed" ends the wait, and nothing else touches it.
+abbrev pub waitsAfter : Bool → Report → Bool
+waitsAfter waits r = not (passed r) && waits
 
 -- ---- the judging of a whole report
 
@@ -194,6 +241,7 @@ judged absoluteReport r = judgedAbsolute (byteAt r 1) (word (byteAt r 2) (byteAt
 judged (relativeReport left right) r = relative left right (signed (byteAt r 1)) (signed (byteAt r 2))
 judged bothSticksReport r = judgedBoth (byteAt r 1) (byteAt r 2)
 judged (oneStickReport which) r = judgedStick which (byteAt r 1)
+judged selfTestReport r = selfTestPassed
 judged badByteReport r = badByte
 
 -- ---- a byte, and a run of bytes
@@ -220,26 +268,30 @@ ending r = record { held = []; report = r }
 abbrev pub fedTo : Kind → List ℕ → Fed
 fedTo k bytes = cond (ltb (length bytes) (lengthOf k)) (keeping bytes) (ending (judged k bytes))
 
--- A byte after the bytes held.
-unfoldable pub fed : List ℕ → ℕ → Fed
-fed held b = fedTo (kindOf (firstOf held b)) (held ++ b ∷ [])
+-- A byte after the bytes held, by a table of first bytes.
+unfoldable pub fed : (ℕ → Kind) → List ℕ → ℕ → Fed
+fed table held b = fedTo (table (firstOf held b)) (held ++ b ∷ [])
 
 -- A state after a byte, with the byte's answer.
 pub record Stepped : Type 0 where
   pub state : State
   pub report : Report
 
--- What was held and answered, as a state and an answer.
-abbrev pub accepted : Fed → Stepped
-accepted f = record { state = holding (f .held); report = f .report }
+-- What was held and answered after a state that waited or did not, as a state and an answer.
+abbrev pub accepted : Bool → Fed → Stepped
+accepted waits f = record { state = holding (waitsAfter waits (f .report)) (f .held); report = f .report }
 
 -- A state that is not well formed is refused: it comes back as it is, and the byte is not read.
 abbrev pub refusing : State → Stepped
 refusing s = record { state = s; report = refused }
 
+-- One byte, by a table of first bytes for states that wait and for those that do not.
+unfoldable pub stepBy : (Bool → ℕ → Kind) → State → ℕ → Stepped
+stepBy table s b = cond (wellFormed s) (accepted (s .waits) (fed (table (s .waits)) (heldIn s) b)) (refusing s)
+
 -- One byte.
-unfoldable pub step : State → ℕ → Stepped
-step s b = cond (wellFormed s) (accepted (fed (heldIn s) b)) (refusing s)
+abbrev pub step : State → ℕ → Stepped
+step = stepBy amended
 
 -- The state after a run over bytes, and the answers other than "more", in order.
 pub record Ran : Type 0 where
@@ -255,6 +307,7 @@ told (absolute flags x y) = absolute flags x y ∷ []
 told (relative left right dx dy) = relative left right dx dy ∷ []
 told (bothSticks t0 p0 t1 p1) = bothSticks t0 p0 t1 p1 ∷ []
 told (oneStick which t p) = oneStick which t p ∷ []
+told selfTestPassed = selfTestPassed ∷ []
 told badByte = badByte ∷ []
 told badReport = badReport ∷ []
 told refused = refused ∷ []
@@ -263,7 +316,47 @@ told refused = refused ∷ []
 abbrev pub after : List Report → Ran → Ran
 after earlier r = record { state = r .state; reports = earlier ++ r .reports }
 
--- A run over bytes, one step for each.
+-- A run over bytes, one step for each, by a table of first bytes.
+abbrev pub runBy : (Bool → ℕ → Kind) → State → List ℕ → Ran
+runBy table s [] = record { state = s; reports = [] }
+runBy table s (b ∷ bs) = after (told (stepBy table s b .report)) (runBy table (stepBy table s b .state) bs)
+
+-- A run over bytes.
 abbrev pub run : State → List ℕ → Ran
-run s [] = record { state = s; reports = [] }
-run s (b ∷ bs) = after (told (step s b .report)) (run (step s b .state) bs)
+run = runBy amended
+
+-- ---- K3 beside document 01
+
+-- The answers to bytes, one for each byte, "more" too.
+abbrev pub answersBy : (Bool → ℕ → Kind) → State → List ℕ → List Report
+answersBy table s [] = []
+answersBy table s (b ∷ bs) = stepBy table s b .report ∷ answersBy table (stepBy table s b .state) bs
+
+-- Those of them that count in a run.
+abbrev pub toldOf : List Report → List Report
+toldOf [] = []
+toldOf (r ∷ rs) = told r ++ toldOf rs
+
+-- Nothing is held: the next byte stands as a first byte.
+abbrev pub nothingHeld : List ℕ → Bool
+nothingHeld [] = true
+nothingHeld (first ∷ rest) = false
+
+-- A byte is a 0xF0 that stands as a first byte.
+abbrev pub selfTestHere : State → ℕ → Bool
+selfTestHere s b = nothingHeld (heldIn s) && eqb b selfTest
+
+-- How many bytes come before the first 0xF0 that stands as a first byte: all of them where there is none.
+abbrev pub beforeSelfTest : State → List ℕ → ℕ
+beforeSelfTest s [] = 0
+beforeSelfTest s (b ∷ bs) = cond (selfTestHere s b) 0 (suc (beforeSelfTest (stepBy unamended s b .state) bs))
+
+-- A state with this wait, otherwise as it was.
+abbrev pub waiting : Bool → State → State
+waiting w s = record { waits = w; bytes = s .bytes; count = s .count }
+
+-- What a state makes of bytes is what document 01's machine does, but for one answer: the first 0xF0 that stands as a first byte, if there
+-- is one, says that the self-test passed. The same bytes are held at the end, and the state waits on where there was none.
+pub record DiffersOnce (s : State) (bs : List ℕ) : Type 0 where
+  pub answers : answersBy amended s bs ≡ set (answersBy unamended s bs) (beforeSelfTest s bs) selfTestPassed
+  pub state : run s bs .state ≡ waiting (leb (length bs) (beforeSelfTest s bs)) (runBy unamended s bs .state)

@@ -14,7 +14,8 @@ use mir.Syntax.{w8}
 use mir.Val.{toZ}
 use Rattle.model.proofs.Bools.{by-sign}
 use Rattle.model.specs.Pod as M
-use Rattle.model.specs.Pod.{kindOf, lengthOf, places, unfinished, zeros, firstOf, Report, byteAt, signed, word, judged, judgedAbsolute, judgedBoth, judgedStick, absoluteReport, relativeReport, bothSticksReport, oneStickReport, relative}
+use Rattle.model.specs.Pod.{kindOf, lengthOf, places, unfinished, zeros, firstOf, Report, relative, byteAt, signed, word}
+use Rattle.model.specs.Pod.{judged, judgedAbsolute, judgedBoth, judgedStick, absoluteReport, relativeReport, bothSticksReport, oneStickReport}
 use Rattle.pod.specs.declared.PodState.{PodState}
 use Rattle.pod.specs.declared.PodAnswer.{PodAnswer}
 use Rattle.pod.specs.Seen.{seen, heldReport, reportSeen, stepAnswer, AnswersAs}
@@ -74,7 +75,8 @@ unfinished-held zero l e h r = absurd (e refl)
 unfinished-held (suc n) [] e h r = absurd (omega arith)
 unfinished-held (suc n) (x ∷ l) e h r = rw (length-take-le n l (omega arith)) (by-test (ltb (suc n) (lengthOf (kindOf x))) refl)
   where
-    by-test : (t : Bool) → ltb (suc n) (lengthOf (kindOf x)) ≡ t → (ltb 1 (lengthOf (kindOf x)) && ltb (suc n) (lengthOf (kindOf x))) ≡ ltb (suc n) (lengthOf (kindOf x))
+    by-test : (t : Bool) → ltb (suc n) (lengthOf (kindOf x)) ≡ t
+        → (ltb 1 (lengthOf (kindOf x)) && ltb (suc n) (lengthOf (kindOf x))) ≡ ltb (suc n) (lengthOf (kindOf x))
     by-test true t = let m = ltb-true (suc n) (lengthOf (kindOf x)) t in rw (t, lt-ltb 1 (lengthOf (kindOf x)) (omega arith))
     by-test false t = rw t (and-false (ltb 1 (lengthOf (kindOf x))))
 
@@ -87,7 +89,7 @@ clear-from l i h = rw (add-one, drop-cons l i 0 h)
 -- ---- the answer
 
 -- What is held of an answer is seen again.
-report-seen : (r : M.Report) → reportSeen (heldReport r) ≡ r
+pub report-seen : (r : M.Report) → reportSeen (heldReport r) ≡ r
 report-seen M.more = refl
 report-seen (M.keyDown key) = refl
 report-seen (M.keyUp key) = refl
@@ -95,6 +97,7 @@ report-seen (M.absolute flags x y) = refl
 report-seen (M.relative left right dx dy) = refl
 report-seen (M.bothSticks t0 p0 t1 p1) = refl
 report-seen (M.oneStick which t p) = refl
+report-seen M.selfTestPassed = refl
 report-seen M.badByte = refl
 report-seen M.badReport = refl
 report-seen M.refused = refl

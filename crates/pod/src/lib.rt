@@ -1,17 +1,22 @@
-// The pod reader of document 01, "Pod reports": one byte at a time, the state holds the unfinished report. Called by show_pod and by a
-// host; `PodState::fresh` and `step` are the public functions, neither requires anything, and what they answer is the model's.
+// The pod reader of document 01, "Pod reports", with 02's K3: one byte at a time, the state holds the unfinished report and knows whether
+// it waits for "self-test passed". Called by show_pod and by a host; `PodState::fresh` and `step` are the public functions, neither requires
+// anything, and what they answer is the model's.
 ghost use mathlib.Core.Path.{_≡_};
 ghost use mathlib.Core.List.{_∷_, [], _++_};
 ghost use Prim.Native.Nat.{_-_, _≤_};
 ghost use lib.ListN.{take, drop};
-ghost use Rattle.model.specs.Pod.{kindOf, lengthOf, places, heldIn, unfinished, zeros, wellFormed, relative, word, signed, goodStick, judgedAbsolute, judgedBoth, judgedStick, judged, firstOf};
-ghost use Rattle.pod.specs.Seen.{kindSeen, seen, heldStick, heldReport, freshState, AnswersAs};
+ghost use Rattle.model.specs.Pod.{kindOf, amended, lengthOf, places, heldIn, emptied, unfinished, zeros, wellFormed, waitsAfter, relative, word, signed, goodStick, judgedAbsolute, judgedBoth, judgedStick, judged, firstOf};
+ghost use Rattle.pod.specs.Seen.{kindSeen, seen, held, heldStick, heldReport, reportSeen, freshState, AnswersAs};
 
 // One fewer than the longest report has bytes, since its last byte is never held.
 pub const PLACES: usize = 5;
 
+// What a pod sends after power-up or reset where its self-test passed. Later it is key 0x70 coming up.
+const SELF_TEST: u8 = 0xf0;
+
 // The places from `count` on are unused, and 0 in a well-formed state.
 pub struct PodState {
+    pub waits: bool,
     pub bytes: [u8; PLACES],
     pub count: usize,
 }
@@ -76,7 +81,13 @@ impl OneStick {
     pub const LENGTH: usize = 2;
 }
 
-// It says nothing, and is here for its length: a bad byte is a row of the table like the others.
+// These two say nothing, and are here for their lengths: each is a row of the table like the others.
+pub struct SelfTestPassed {}
+
+impl SelfTestPassed {
+    pub const LENGTH: usize = 1;
+}
+
 pub struct BadByte {}
 
 impl BadByte {
@@ -91,6 +102,7 @@ pub enum Report {
     Relative(Relative),
     BothSticks(BothSticks),
     OneStick(OneStick),
+    SelfTestPassed(SelfTestPassed),
     BadByte(BadByte),
     BadReport,
     // refusal 2, STATE
@@ -110,22 +122,31 @@ enum Kind {
     Relative(bool, bool),
     BothSticks,
     OneStick(u8),
+    SelfTest,
     BadByte,
 }
 
 impl PodState {
     // The state that holds nothing.
-    pub fn fresh() -> Self
-        ensures { λ r. ⌜ r ≡ freshState ⌝ }
+    fn emptied(waits: bool) -> Self
+        ensures { λ r. ⌜ r ≡ held (emptied waits) ⌝ }
     {
         PodState {
+            waits,
             bytes: [0; PLACES],
             count: 0,
         }
     }
+
+    // It waits, as a pod's state does after power-up or reset.
+    pub fn fresh() -> Self
+        ensures { λ r. ⌜ r ≡ freshState ⌝ }
+    {
+        PodState::emptied(true)
+    }
 }
 
-// The one decision over a first byte.
+// The one decision over a first byte that is no passed self-test.
 fn kind_of(first: u8) -> Kind
     ensures { λ r. ⌜ kindSeen r ≡ kindOf first ⌝ }
 {
@@ -140,6 +161,19 @@ fn kind_of(first: u8) -> Kind
     }
 }
 
+// By K3 before 01's table: while waiting a 0xF0 is no key.
+fn opened(waits: bool, first: u8) -> Kind
+    ensures { λ r. ⌜ kindSeen r ≡ amended waits first ⌝ }
+{
+    if !waits {
+        return kind_of(first);
+    }
+    if first == SELF_TEST {
+        return Kind::SelfTest;
+    }
+    kind_of(first)
+}
+
 fn length_of(kind: Kind) -> usize
     ensures { λ r. ⌜ r ≡ lengthOf (kindSeen kind) ⌝ }
 {
@@ -150,6 +184,7 @@ fn length_of(kind: Kind) -> usize
         Kind::Relative(_, _) => Relative::LENGTH,
         Kind::BothSticks => BothSticks::LENGTH,
         Kind::OneStick(_) => OneStick::LENGTH,
+        Kind::SelfTest => SelfTestPassed::LENGTH,
         Kind::BadByte => BadByte::LENGTH,
     }
 }
@@ -247,6 +282,7 @@ fn judge(kind: Kind, bytes: [u8; PLACES], last: u8) -> Report
         Kind::Relative(left, right) => relative_of(left, right, bytes[1], last),
         Kind::BothSticks => judge_both(bytes[1], last),
         Kind::OneStick(which) => judge_stick(which, last),
+        Kind::SelfTest => Report::SelfTestPassed(SelfTestPassed {}),
         Kind::BadByte => Report::BadByte(BadByte {}),
     }
 }
@@ -298,6 +334,25 @@ fn first_of(state: PodState, byte: u8) -> u8
     state.bytes[0]
 }
 
+// "Self-test passed" ends the wait, and no other answer touches it.
+fn waits_after(waits: bool, report: Report) -> bool
+    ensures { λ r. ⌜ r ≡ waitsAfter waits (reportSeen report) ⌝ }
+{
+    match report {
+        Report::More => waits,
+        Report::KeyDown(_) => waits,
+        Report::KeyUp(_) => waits,
+        Report::Absolute(_) => waits,
+        Report::Relative(_) => waits,
+        Report::BothSticks(_) => waits,
+        Report::OneStick(_) => waits,
+        Report::SelfTestPassed(_) => false,
+        Report::BadByte(_) => waits,
+        Report::BadReport => waits,
+        Report::Refused => waits,
+    }
+}
+
 // One byte: the state after it, and its answer. A state that is not well formed comes back as it is, and the byte is not read.
 pub fn step(state: PodState, byte: u8) -> PodAnswer
     ensures { λ r. ⌜ AnswersAs state byte r ⌝ }
@@ -310,7 +365,7 @@ pub fn step(state: PodState, byte: u8) -> PodAnswer
     }
     let count = state.count;
     let bytes = state.bytes;
-    let kind = kind_of(first_of(state, byte));
+    let kind = opened(state.waits, first_of(state, byte));
     if count + 1 < length_of(kind) {
         let mut next = state;
         next.bytes[count] = byte;
@@ -321,7 +376,7 @@ pub fn step(state: PodState, byte: u8) -> PodAnswer
         };
     }
     let report = judge(kind, bytes, byte);
-    let empty = PodState::fresh();
+    let empty = PodState::emptied(waits_after(state.waits, report));
     PodAnswer {
         state: empty,
         report,

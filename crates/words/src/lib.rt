@@ -27,7 +27,8 @@ fn say_signed(page: &mut [u8], out: Out, v: i8) -> Out {
     stream::say_signed(page, a, wide(v))
 }
 
-fn say_bit(page: &mut [u8], out: Out, on: bool) -> Out {
+// 1 or 0 after a blank.
+pub fn say_bit(page: &mut [u8], out: Out, on: bool) -> Out {
     if on {
         return stream::say(page, out, b" 1");
     }
@@ -83,6 +84,7 @@ pub fn say_report(page: &mut [u8], out: Out, report: Report) -> Out {
         Report::Relative(r) => say_relative(page, out, r),
         Report::BothSticks(r) => say_both(page, out, r),
         Report::OneStick(r) => say_one(page, out, r),
+        Report::SelfTestPassed(_) => stream::say(page, out, b"self-test passed"),
         Report::BadByte(_) => stream::say(page, out, b"bad byte"),
         Report::BadReport => stream::say(page, out, b"bad report"),
         Report::Refused => stream::say(page, out, b"refused 2"),
@@ -98,6 +100,7 @@ fn is_more(report: Report) -> bool {
         Report::Relative(_) => false,
         Report::BothSticks(_) => false,
         Report::OneStick(_) => false,
+        Report::SelfTestPassed(_) => false,
         Report::BadByte(_) => false,
         Report::BadReport => false,
         Report::Refused => false,

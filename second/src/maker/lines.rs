@@ -12,6 +12,7 @@ const NO_SIGNED_32: Outside = &["2147483648", "-2147483649", "4294967295", "-429
 const NO_16_BITS: Outside = &["65536", "-1", "65539"];
 const NO_BYTE: Outside = &["256", "-1", "257"];
 const NO_MODE: Outside = &["3", "3", "-1", "256", "4294967296"];
+const NO_WAITS: Outside = &["2", "2", "3", "-1", "256", "257", "4294967296", "4294967297"];
 const NO_SIZE: Outside = &["4097", "4097", "-1", "4294967296", "65536"];
 
 impl Maker {
@@ -23,6 +24,7 @@ impl Maker {
                 self.tag("line: spaces alone");
                 return " ".repeat(self.random.from_to(1, 5) as usize);
             }
+            4 => return self.bad_waits(),
             _ => {}
         }
         let call = match self.call() {
@@ -58,6 +60,16 @@ impl Maker {
                 self.overfill(&call, &mut words);
             }
         }
+        words.join(" ")
+    }
+
+    /// A good call of a pod but for whether it waits.
+    fn bad_waits(&mut self) -> String {
+        let line = self.pod().line();
+        self.tags.clear();
+        self.tag("line: a pod that waits by neither 0 nor 1");
+        let mut words: Vec<&str> = line.split(' ').collect();
+        words[1] = self.random.pick(NO_WAITS);
         words.join(" ")
     }
 
@@ -120,8 +132,8 @@ impl Maker {
         let places = match call {
             Call::Fresh(_) | Call::New(_) | Call::Start => setup.to_vec(),
             Call::Pod { .. } => {
-                let byte = self.random.from_to(2, last as u64) as usize;
-                vec![(1, NO_64_BITS), (byte, NO_BYTE), (last, NO_BYTE)]
+                let byte = self.random.from_to(3, last as u64) as usize;
+                vec![(1, NO_WAITS), (2, NO_64_BITS), (byte, NO_BYTE), (last, NO_BYTE)]
             }
             Call::Good { .. } => reader,
             Call::Run { .. } if last > READER_NUMBERS => [reader, vec![(last, NO_BYTE); 3]].concat(),

@@ -1,15 +1,23 @@
-//! Calls of the pod: bytes in every place of a report, and pod states that are not well formed.
+//! Calls of the pod: bytes in every place of a report, the self-test's often among them, and pod states that are not well formed.
 
 use super::Maker;
-use crate::pod::{length, Pod};
+use crate::pod::{length, Pod, PLACES, SELF_TEST};
 use crate::script::Call;
+
+/// The self-test's byte, mostly, and those that a hasty look takes for it: its neighbours, and the key that it is afterwards.
+const ABOUT_SELF_TEST: [u8; 6] = [SELF_TEST, SELF_TEST, SELF_TEST, SELF_TEST - 1, SELF_TEST + 1, SELF_TEST & 0x7F];
 
 impl Maker {
     pub(super) fn pod(&mut self) -> Call {
         if self.random.once_in(6) {
             return self.broken_pod();
         }
+        // Calls alone would soon end every wait. Both values are well formed, whatever is held.
+        if self.random.once_in(3) {
+            self.pod.waits = !self.pod.waits;
+        }
         let pod = self.pod;
+        self.tag(if pod.waits { "pod: waits" } else { "pod: does not wait" });
         let mut bytes = Vec::new();
         for _ in 0..self.pod_bytes() {
             let byte = self.pod_byte(self.pod);
@@ -19,9 +27,9 @@ impl Maker {
         Call::Pod { pod, bytes }
     }
 
-    /// How many bytes a call has: mostly one, so that most states are ones that an answer ended in.
+    /// How many bytes a call has: often one, so that many states are ones that an answer ended in.
     fn pod_bytes(&mut self) -> u64 {
-        if !self.random.once_in(4) {
+        if self.random.once_in(2) {
             return 1;
         }
         self.tag("pod: several bytes");
@@ -32,6 +40,10 @@ impl Maker {
     pub(crate) fn pod_byte(&mut self, pod: Pod) -> u8 {
         if pod.held > 0 {
             self.tag("pod: byte inside a report");
+            if self.random.once_in(6) {
+                self.tag("pod: F0 inside a report");
+                return SELF_TEST;
+            }
             let any = self.random.word() as u8;
             let small = any & 0x0F;
             // One bit above the low four, which alone may make a report bad.
@@ -44,6 +56,14 @@ impl Maker {
             };
         }
         self.tag("pod: first byte");
+        if self.random.once_in(5) {
+            self.tag(if pod.waits {
+                "pod: F0 or near it while it waits"
+            } else {
+                "pod: F0 or near it, not waited for"
+            });
+            return self.random.pick(&ABOUT_SELF_TEST);
+        }
         if self.random.once_in(3) {
             // An odd step reaches all 256, and each range of them soon.
             self.next_first_byte = self.next_first_byte.wrapping_add(37);
@@ -56,8 +76,8 @@ impl Maker {
     }
 
     pub(super) fn broken_pod(&mut self) -> Call {
-        let first = self.random.pick(&[0xF7, 0xF8, 0xF9, 0xFA, 0xFB, 0xFD, 0xFE, 0xFF]);
-        let mut pod = Pod { held: self.random.below(length(first)), bytes: [0; 5] };
+        let first = self.random.pick(&[0xF7, 0xF7, 0xF7, 0xF8, 0xF9, 0xFA, 0xFB, 0xFD, 0xFE, 0xFF]);
+        let mut pod = Pod { waits: self.random.once_in(2), held: self.random.below(length(first)), bytes: [0; PLACES] };
         if pod.held > 0 {
             pod.bytes[0] = first;
             for place in 1..pod.held as usize {
@@ -67,7 +87,7 @@ impl Maker {
         match self.random.below(4) {
             0 => {
                 self.tag("pod: held too many");
-                pod.held = self.random.pick(&[6, 7, 255, (1 << 8) + pod.held, (1 << 32) + pod.held, u64::MAX]);
+                pod.held = self.random.pick(&[6, 6, 7, 255, (1 << 8) + pod.held, (1 << 32) + pod.held, u64::MAX]);
             }
             1 => {
                 self.tag("pod: held as many as the report is long");
@@ -78,7 +98,10 @@ impl Maker {
             2 => {
                 self.tag("pod: first byte opens nothing");
                 pod.held = pod.held.max(1);
-                pod.bytes[0] = self.random.pick(&[0, 1, 0x75, 0x80, 0x81, 0xF5, 0xF6, 0xFC]);
+                if self.random.once_in(2) {
+                    pod = Pod { held: 1, ..pod.without_bytes() };
+                }
+                pod.bytes[0] = self.random.pick(&[0, 1, 0x75, 0x80, 0x81, SELF_TEST, SELF_TEST, 0xF5, 0xF6, 0xFC]);
             }
             _ => {
                 self.tag("pod: unused place not 0");
@@ -86,11 +109,12 @@ impl Maker {
                 if place < 5 {
                     pod.bytes[place] = self.random.from_to(1, 255) as u8;
                 } else {
-                    pod = Pod { held: 0, bytes: [0xF8, 0, 0, 0, 0] };
+                    pod = Pod { held: 0, bytes: [0xF8, 0, 0, 0, 0], ..pod };
                 }
             }
         }
-        let bytes = (0..self.pod_bytes()).map(|_| self.random.word() as u8).collect();
-        Call::Pod { pod, bytes }
+        let count = self.pod_bytes();
+        let bytes = (0..count).map(|_| if self.random.once_in(4) { SELF_TEST } else { self.random.word() as u8 });
+        Call::Pod { pod, bytes: bytes.collect() }
     }
 }

@@ -202,25 +202,27 @@ fn a_setup_alone_and_a_frame_cut_to_whole_numbers() {
 #[test]
 fn pod_lines() {
     let bytes = [
-        0x75, 0xF5, 0x00, 0xF8, 0x80, 0x7F, 0xFE, 0x81, 0xFF, 0x10, 0xF7, 0x05, 0x01, 0x2C, 0x00, 0xC8, 0xFD, 0x00,
-        0x81, 0xFF, 0x0F, 0xF7, 0x10,
+        0x75, 0xF0, 0xF0, 0xF5, 0x00, 0xF8, 0x80, 0x7F, 0xFE, 0x81, 0xFF, 0x10, 0xF7, 0x05, 0x01, 0x2C, 0x00, 0xC8,
+        0xFD, 0x00, 0x81, 0xFF, 0x0F, 0xF7, 0x10,
     ];
-    let lines = "down 117\nup 117\nbad byte\nrelative 0 0 -128 127\nstick 0 1 1\nbad report\n\
+    let lines =
+        "down 117\nself-test passed\nup 112\nup 117\nbad byte\nrelative 0 0 -128 127\nstick 0 1 1\nbad report\n\
                  absolute 5 300 200\nsticks 0 0 1 1\nstick 1 0 15\n";
     assert_eq!(said("show_pod", &bytes, false), (Accepted, format!("{lines}more\n"), String::new()));
-    assert_eq!(said("show_pod", &bytes[..21], false), strings(Accepted, lines, ""));
+    assert_eq!(said("show_pod", &bytes[..23], false), strings(Accepted, lines, ""));
     let lost = format!("{lines}input lost\n");
-    for length in [21, 23] {
+    for length in [23, 25] {
         assert_eq!(said("show_pod", &bytes[..length], true), (Failed, lost.clone(), format!("show_pod: {LOST}")));
     }
 }
 
 #[test]
 fn lines_of_a_script() {
-    let script = b"# a name\n\npod 0 0 0 0 0 0 0\npod 0 0 0 0 0 0 254";
-    assert_eq!(said("drive", script, false), strings(Accepted, "0 0 0 0 0 0 bad byte\n1 254 0 0 0 0 more\n", ""));
+    let script = b"# a name\n\npod 1 0 0 0 0 0 0 0\npod 0 0 0 0 0 0 0 254";
+    assert_eq!(said("drive", script, false), strings(Accepted, "1 0 0 0 0 0 0 bad byte\n0 1 254 0 0 0 0 more\n", ""));
     // The cut line is left unanswered, though it would be a call.
-    assert_eq!(said("drive", script, true), (Failed, "0 0 0 0 0 0 bad byte\n".to_string(), format!("drive: {LOST}")));
+    let answered = "1 0 0 0 0 0 0 bad byte\n".to_string();
+    assert_eq!(said("drive", script, true), (Failed, answered, format!("drive: {LOST}")));
     assert_eq!(said("drive", b"start\nstop\nstart\n", false).0, Refused);
     // A call that is refused is an answer.
     assert_eq!(said("drive", b"fresh 0 1 1 1\n", false).0, Accepted);
@@ -233,7 +235,7 @@ fn long_lines_of_a_script() {
     for (lines, out) in [
         (
             vec![line(LONGEST_LINE), line(LONGEST_LINE + 1), line(300_000), line(5)],
-            "0 0 0 0 0 0\nbad line\nbad line\n0 0 0 0 0 0\n",
+            "1 0 0 0 0 0 0\nbad line\nbad line\n1 0 0 0 0 0 0\n",
         ),
         (vec![line(300_000), comment.clone(), line(LONGEST_LINE + 1)], "bad line\nbad line\n"),
         (vec![line(300_000), comment], "bad line\n"),
@@ -251,7 +253,7 @@ fn a_slow_input_is_answered_as_it_comes() {
         assert_eq!(*seen.0.borrow(), after);
     };
     talk("show_pod", &[(b"\x01\xF8", b""), (b"\0\0", b"down 1\n")], b"down 1\nrelative 0 0 0 0\n");
-    talk("drive", &[(b"start\nsta", b""), (b"rt\n", b"0 0 0 0 0 0\n")], b"0 0 0 0 0 0\n0 0 0 0 0 0\n");
+    talk("drive", &[(b"start\nsta", b""), (b"rt\n", b"1 0 0 0 0 0 0\n")], b"1 0 0 0 0 0 0\n1 0 0 0 0 0 0\n");
     let input = encoded("SETUP 1 9 9 9\nFRAME 1 0 0 0\nFRAME 0 0 0 0\n");
     let output = encoded("SETUP 1 9 9 9\nID 0\nREPORT\nID -1\nREPORT\n");
     talk(
@@ -341,6 +343,8 @@ fn noise_is_answered_and_tries_every_word_of_the_page() {
         "frame 2 refused 4\n",
         HINT,
         "more\n",
+        "self-test passed\n",
+        "up 112\n",
         "bad report\n",
         "bad line\n",
     ] {

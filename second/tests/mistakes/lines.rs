@@ -41,6 +41,16 @@ fn with_word(line: &str, find: impl Fn(&str, &str) -> bool) -> Option<String> {
     Some(line.replacen(word, name, 1))
 }
 
+/// A pod's line with another `waits` in place of such a one.
+fn with_waits(line: &str, is_it: fn(&str) -> bool, other: &'static str) -> Option<String> {
+    let mut all: Vec<&str> = words(line).collect();
+    if all.first() != Some(&"pod") {
+        return None;
+    }
+    *all.get_mut(1).filter(|word| is_it(word))? = other;
+    Some(all.join(" "))
+}
+
 /// A number without zeros in front.
 fn plain(word: &str) -> String {
     word.parse::<i128>().map_or(word.to_string(), |number| number.to_string())
@@ -76,6 +86,9 @@ fn limits() -> Vec<Wrong> {
         forgives("a pod needs no byte", |line| {
             (line.starts_with("pod ") && numbers(line) == POD_NUMBERS).then(|| "start".to_string())
         }),
+        forgives("a pod without its waits is a fresh one", |line| {
+            line.strip_prefix("pod ").map(|numbers| format!("pod 1 {numbers}"))
+        }),
     ]
 }
 
@@ -110,6 +123,11 @@ fn numerals() -> Vec<Wrong> {
             *all.get_mut(6).filter(|word| **word == "3")? = "2";
             Some(all.join(" "))
         }),
+        forgives("a pod's waits of 2 is 1", |line| with_waits(line, |waits| waits == "2", "1")),
+        forgives("a pod's waits of 2 is 0", |line| with_waits(line, |waits| waits == "2", "0")),
+        forgives("a pod's waits may be any number but 0", |line| with_waits(line, |waits| waits != "0", "1")),
+        forgives("a pod's waits of -1 is 1", |line| with_waits(line, |waits| waits == "-1", "1")),
+        forgives("a pod's waits is cut to 8 bits", |line| with_waits(line, |waits| waits == "257", "1")),
         forgives("-1 is 1 where no sign may be", |line| with_numbers(line, |number| number.replace("-1", "1"))),
     ];
     for bits in [8, 16, 32, 64] {

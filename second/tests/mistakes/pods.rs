@@ -1,16 +1,22 @@
-//! Mistakes in a pod's reports: first bytes, lengths, bits, signs, and what is judged of the state.
+//! Mistakes in a pod's reports: first bytes, lengths, bits, signs, what is judged of the state, and the wait for the self-test.
 
-use second::pod::{length, Pod, Report, Stick, PLACES};
+use second::pod::{length, Pod, Report, Stick, PLACES, SELF_TEST};
 use second::refusal::Refusal;
+use second::script::Call;
 
-use crate::wrong::{pods, Wrong};
+use crate::wrong::{pods, says, Wrong};
 
 type Taken = Result<Report, Refusal>;
+
+/// Whether the next byte is a first one.
+fn is_at_first(pod: &Pod) -> bool {
+    *pod == pod.without_bytes()
+}
 
 /// It takes a first byte for another.
 fn first(name: &str, of: fn(u8) -> u8) -> Wrong {
     pods(name, move |pod, byte| {
-        let is_first = *pod == Pod::FRESH;
+        let is_first = is_at_first(pod);
         match pod.take(if is_first { of(byte) } else { byte }) {
             Ok(Report::More) if is_first => {
                 pod.bytes[0] = byte;
@@ -23,9 +29,14 @@ fn first(name: &str, of: fn(u8) -> u8) -> Wrong {
 
 /// It answers a first byte by this report.
 fn first_is(byte: u8, report: Report) -> Wrong {
-    pods(format!("first byte {byte:#04X} is {report:?}"), move |pod, taken| match pod.take(taken) {
-        Ok(_) if taken == byte && *pod == Pod::FRESH && length(byte) == 1 => Ok(report),
-        other => other,
+    pods(format!("first byte {byte:#04X} is {report:?}"), move |pod, taken| {
+        let is_it = taken == byte && is_at_first(pod);
+        let right = pod.take(taken);
+        if is_it {
+            Ok(report)
+        } else {
+            right
+        }
     })
 }
 
@@ -162,7 +173,7 @@ fn bits() -> Vec<Wrong> {
 /// Judged by the first byte that can be.
 fn at_once(pod: &mut Pod, byte: u8, opens: u8, bad: u8) -> Taken {
     if pod.is_well_formed() && pod.held == 1 && pod.bytes[0] == opens && byte & bad != 0 {
-        *pod = Pod::FRESH;
+        *pod = pod.without_bytes();
         return Ok(Report::BadReport);
     }
     pod.take(byte)
@@ -174,7 +185,7 @@ fn steps() -> Vec<Wrong> {
         pods("a bad first stick is told at once", |pod, byte| at_once(pod, byte, 0xFD, 0x70)),
         pods("a first byte inside a report begins anew", |pod, byte| {
             if pod.is_well_formed() && pod.held > 0 && byte >= 0xF7 {
-                *pod = Pod::FRESH;
+                *pod = pod.without_bytes();
             }
             pod.take(byte)
         }),
@@ -227,23 +238,23 @@ fn well_formed() -> Vec<Wrong> {
         states("the places are not judged where none is held", |pod| clear(pod, if pod.held == 0 { 0 } else { 5 })),
         states("a whole report of two may be held", |pod| {
             if pod.held == 2 && pod.bytes[0] >= 0xFE {
-                *pod = Pod { held: 1, bytes: [pod.bytes[0], 0, 0, 0, 0] };
+                *pod = Pod { held: 1, bytes: [pod.bytes[0], 0, 0, 0, 0], ..*pod };
             }
         }),
         states("a whole report of three may be held", |pod| {
             if pod.held == 3 && length(pod.bytes[0]) == 3 {
-                *pod = Pod { held: 2, bytes: [pod.bytes[0], pod.bytes[1], 0, 0, 0] };
+                *pod = Pod { held: 2, bytes: [pod.bytes[0], pod.bytes[1], 0, 0, 0], ..*pod };
             }
         }),
         states("a whole report of six may be held", |pod| pod.held -= u64::from(pod.held == 6)),
         states("a key may be held", |pod| {
             if pod.held == 1 && (0x01..=0x75).contains(&pod.bytes[0]) {
-                *pod = Pod::FRESH;
+                *pod = pod.without_bytes();
             }
         }),
         states("a bad byte may be held", |pod| {
             if pod.held == 1 && matches!(pod.bytes[0], 0 | 0x80 | 0xF6 | 0xFC) {
-                *pod = Pod::FRESH;
+                *pod = pod.without_bytes();
             }
         }),
         states("how many are held is cut to 8 bits", |pod| pod.held &= 0xFF),
@@ -257,7 +268,183 @@ fn well_formed() -> Vec<Wrong> {
     ]
 }
 
+/// It takes a byte right, and then waits otherwise: the pod before, the byte, the right report; whether it waits now.
+fn waits(name: &str, then: impl Fn(&Pod, u8, Report) -> bool + 'static) -> Wrong {
+    pods(name, move |pod, byte| {
+        let before = *pod;
+        let report = pod.take(byte)?;
+        pod.waits = then(&before, byte, report);
+        Ok(report)
+    })
+}
+
+/// It ends the wait, besides where it is to, after such a byte or report.
+fn ends_wait(name: &str, when: impl Fn(&Pod, u8, Report) -> bool + 'static) -> Wrong {
+    waits(name, move |before, byte, report| {
+        before.waits && report != Report::SelfTestPassed && !when(before, byte, report)
+    })
+}
+
+/// It begins to wait again after such a byte or report.
+fn begins_wait(name: &str, when: impl Fn(&Pod, u8, Report) -> bool + 'static) -> Wrong {
+    waits(name, move |before, byte, report| {
+        before.waits && report != Report::SelfTestPassed || when(before, byte, report)
+    })
+}
+
+fn is_last(report: Report) -> bool {
+    report != Report::More
+}
+
+fn when_it_waits() -> Vec<Wrong> {
+    vec![
+        ends_wait("a key that goes down ends the wait", |_, _, report| matches!(report, Report::Down(_))),
+        ends_wait("a key that comes up ends the wait", |_, _, report| matches!(report, Report::Up(_))),
+        ends_wait("key 112 that goes down ends the wait", |_, _, report| report == Report::Down(112)),
+        ends_wait("a bad byte ends the wait", |_, _, report| report == Report::BadByte),
+        ends_wait("a bad report ends the wait", |_, _, report| report == Report::BadReport),
+        ends_wait("an absolute report ends the wait", |_, _, report| matches!(report, Report::Absolute { .. })),
+        ends_wait("a relative report ends the wait", |_, _, report| matches!(report, Report::Relative { .. })),
+        ends_wait("both sticks end the wait", |_, _, report| matches!(report, Report::Sticks(..))),
+        ends_wait("a stick ends the wait", |_, _, report| matches!(report, Report::Stick { .. })),
+        ends_wait("a report that begins ends the wait", |before, _, report| before.held == 0 && !is_last(report)),
+        ends_wait("F0 inside a report ends the wait", |_, byte, report| byte == SELF_TEST && !is_last(report)),
+        ends_wait("F0 at a report's end ends the wait", |before, byte, _| before.held > 0 && byte == SELF_TEST),
+        waits("the self-test does not end the wait", |before, _, _| before.waits),
+        begins_wait("a bad byte begins the wait anew", |_, _, report| report == Report::BadByte),
+        begins_wait("a bad report begins the wait anew", |_, _, report| report == Report::BadReport),
+        begins_wait("a whole report leaves a fresh pod", |before, _, report| before.held > 0 && is_last(report)),
+        begins_wait("a key leaves a fresh pod", |_, _, report| matches!(report, Report::Up(_) | Report::Down(_))),
+        begins_wait("F0 that is a key begins the wait anew", |_, _, report| report == Report::Up(112)),
+        begins_wait("a report that begins begins the wait anew", |_, _, report| report == Report::More),
+        says("a fresh pod does not wait", |call, words| {
+            if *call == Call::Start {
+                words[0] = "0".to_string();
+            }
+        }),
+    ]
+}
+
+/// It takes a first byte for the self-test, or for none.
+fn self_test(name: &str, is_it: impl Fn(&Pod, u8) -> Option<bool> + 'static) -> Wrong {
+    pods(name, move |pod, byte| {
+        let otherwise = is_it(pod, byte).filter(|_| is_at_first(pod));
+        match (pod.take(byte)?, otherwise) {
+            (Report::SelfTestPassed, Some(false)) => {
+                pod.waits = true;
+                Ok(Report::Up(byte - 0x80))
+            }
+            (_, Some(true)) => {
+                pod.waits = false;
+                Ok(Report::SelfTestPassed)
+            }
+            (right, _) => Ok(right),
+        }
+    })
+}
+
+fn self_tests() -> Vec<Wrong> {
+    let mut all = vec![
+        self_test("F0 is always a key", |_, byte| (byte == SELF_TEST).then_some(false)),
+        self_test("F0 is always the self-test", |_, byte| (byte == SELF_TEST).then_some(true)),
+        // The byte tells the release, and there might be another by the manual.
+        self_test("F1 is the self-test too", |pod, byte| (pod.waits && byte == SELF_TEST + 1).then_some(true)),
+        self_test("EF is the self-test too", |pod, byte| (pod.waits && byte == SELF_TEST - 1).then_some(true)),
+        self_test("70 is the self-test too", |pod, byte| (pod.waits && byte == SELF_TEST & 0x7F).then_some(true)),
+        self_test("any byte is the self-test while it waits", |pod, byte| {
+            (pod.waits && length(byte) == 1).then_some(true)
+        }),
+        reports("the self-test is a key, and ends the wait", |report| match report {
+            Report::SelfTestPassed => Report::Up(SELF_TEST - 0x80),
+            other => other,
+        }),
+        reports("the self-test is a bad byte", |report| match report {
+            Report::SelfTestPassed => Report::BadByte,
+            other => other,
+        }),
+        reports("key 112 that comes up is a bad byte", |report| match report {
+            Report::Up(112) => Report::BadByte,
+            other => other,
+        }),
+        pods("F0 inside a report is the self-test, and the report goes on", |pod, byte| {
+            if pod.is_well_formed() && pod.waits && pod.held > 0 && byte == SELF_TEST {
+                pod.waits = false;
+                return Ok(Report::SelfTestPassed);
+            }
+            pod.take(byte)
+        }),
+        pods("F0 inside a report is the self-test, and the report is lost", |pod, byte| {
+            if pod.is_well_formed() && pod.waits && byte == SELF_TEST {
+                *pod = pod.without_bytes();
+            }
+            pod.take(byte)
+        }),
+        pods("the self-test opens a longer report", |pod, byte| match pod.take(byte)? {
+            Report::SelfTestPassed => {
+                *pod = Pod { held: 1, bytes: [byte, 0, 0, 0, 0], ..*pod };
+                Ok(Report::More)
+            }
+            report => Ok(report),
+        }),
+    ];
+    for place in 1..=PLACES as u64 {
+        all.push(pods(format!("F0 at place {place} of a report is the self-test"), move |pod, byte| {
+            if pod.is_well_formed() && pod.waits && pod.held == place && byte == SELF_TEST {
+                *pod = Pod { waits: false, ..pod.without_bytes() };
+                return Ok(Report::SelfTestPassed);
+            }
+            pod.take(byte)
+        }));
+    }
+    all
+}
+
+/// It refuses a well-formed state.
+fn refuses_state(name: &str, when: fn(&Pod) -> bool) -> Wrong {
+    pods(name, move |pod, byte| if when(pod) { Err(Refusal::State) } else { pod.take(byte) })
+}
+
+fn states_that_wait() -> Vec<Wrong> {
+    vec![
+        refuses_state("a pod that waits holds nothing", |pod| pod.waits && pod.held > 0),
+        refuses_state("a pod that holds nothing waits", |pod| !pod.waits && pod.held == 0),
+        refuses_state("a pod that waits holds four bytes at most", |pod| pod.waits && pod.held > 4),
+        states("a pod that waits may hold the self-test", |pod| {
+            if pod.waits && pod.held == 1 && pod.bytes[0] == SELF_TEST {
+                *pod = pod.without_bytes();
+            }
+        }),
+        states("the self-test may be held", |pod| {
+            if !pod.waits && pod.held == 1 && pod.bytes[0] == SELF_TEST {
+                *pod = pod.without_bytes();
+            }
+        }),
+        states("the places of a pod that waits are not judged", |pod| {
+            if pod.waits && pod.held == 0 {
+                clear(pod, 0);
+            }
+        }),
+        pods("a refused F0 ends the wait", |pod, byte| {
+            let taken = pod.take(byte);
+            pod.waits &= !(taken.is_err() && byte == SELF_TEST);
+            taken
+        }),
+        pods("a refusal gives back a pod that waits", |pod, byte| {
+            let taken = pod.take(byte);
+            pod.waits |= taken.is_err();
+            taken
+        }),
+        pods("a refusal gives back a pod that does not wait", |pod, byte| {
+            let taken = pod.take(byte);
+            pod.waits &= taken.is_ok();
+            taken
+        }),
+    ]
+}
+
 /// Each mistake of this file.
 pub fn all() -> Vec<Wrong> {
-    [first_bytes(), said(), bits(), steps(), well_formed()].into_iter().flatten().collect()
+    let of_reports = [first_bytes(), said(), bits(), steps(), well_formed()];
+    let of_the_wait = [when_it_waits(), self_tests(), states_that_wait()];
+    of_reports.into_iter().chain(of_the_wait).flatten().collect()
 }

@@ -66,6 +66,9 @@ judge-stick-requires c κs = search needs
 enum-told-3 : tie.Need-enum-told-3
 enum-told-3 c = search needs
 
+enum-told-4 : tie.Need-enum-told-4
+enum-told-4 c = search needs
+
 returns : tie.Need-returns
 returns c = rw (c .before .kind .given .1)
 
@@ -76,13 +79,16 @@ returns-3 : tie.Need-returns-3
 returns-3 c =
     let l = c .before .before .before .before .before .args .t2 in
     let s : length l ≡ places = search needs in
-    rw (c .before .before .before .enum-told .given .1) (rw (c .before .before .join .ensures, c .before .join2 .ensures) at (c .judge-absolute .ensures) ∙ ap heldReport (sym (whole-absolute l (c .before .before .before .before .before .args .last) s)))
+    let judged = rw (c .before .before .join .ensures, c .before .join2 .ensures) at (c .judge-absolute .ensures) in
+    let whole = whole-absolute l (c .before .before .before .before .before .args .last) s in
+    rw (c .before .before .before .enum-told .given .1) (judged ∙ ap heldReport (sym whole))
 
 returns-4 : tie.Need-returns-4
 returns-4 c =
     let l = c .before .before .before .before .args .t2 in
     let s : length l ≡ places = search needs in
-    rw (c .before .before .kind3 .given .1) (c .relative-of .ensures ∙ ap heldReport (sym (whole-relative l (c .before .before .before .before .args .last) s _ _)))
+    let whole = whole-relative l (c .before .before .before .before .args .last) s _ _ in
+    rw (c .before .before .kind3 .given .1) (c .relative-of .ensures ∙ ap heldReport (sym whole))
 
 returns-5 : tie.Need-returns-5
 returns-5 c =
@@ -98,6 +104,9 @@ returns-6 c =
 
 returns-7 : tie.Need-returns-7
 returns-7 c = rw (c .enum-told3 .given .1)
+
+returns-8 : tie.Need-returns-8
+returns-8 c = rw (c .enum-told4 .given .1)
 
 pub judge-spec : {M : Type 1} → statement M
 judge-spec =
@@ -122,10 +131,12 @@ judge-spec =
     enum-known-kind-4
     judge-stick-requires
     enum-told-3
+    enum-told-4
     returns
     returns-2
     returns-3
     returns-4
     returns-5
     returns-6
-    returns-7)
+    returns-7
+    returns-8)
