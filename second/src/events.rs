@@ -18,6 +18,9 @@ pub const ABS_MT_POSITION_Y: u16 = 0x36;
 pub const ABS_MT_TRACKING_ID: u16 = 0x39;
 pub const ABS_MT_PRESSURE: u16 = 0x3a;
 
+/// The types that have listed codes; of any other type no code is known.
+pub const KNOWN_TYPES: [u16; 2] = [EV_SYN, EV_ABS];
+
 /// The types and codes that are listed; all others are skipped.
 pub const LISTED: [(u16, u16); 7] = [
     (EV_SYN, SYN_REPORT),

@@ -137,9 +137,9 @@ struct Followed {
 
 impl Followed {
     fn run(&mut self, reader: &mut Reader, records: &[u8]) {
-        let counts = reader.run(records).expect(WELL_FORMED);
-        self.followed += (records.len() / RECORD) as u64 - counts.ignored;
-        self.skipped += counts.skipped;
+        let ran = reader.run(records).expect(WELL_FORMED);
+        self.followed += (records.len() / RECORD) as u64 - ran.ignored;
+        self.skipped += ran.skipped();
     }
 
     fn was_mostly_skipped(&self) -> bool {

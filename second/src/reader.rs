@@ -12,18 +12,38 @@ pub enum Mode {
     Stale,
 }
 
-/// The four counts of one run.
+/// What one run tells: five counts, and what it skipped first.
 #[derive(Clone, Copy, PartialEq, Eq, Debug)]
-pub struct Counts {
+pub struct Ran {
     pub shown: u64,
-    pub skipped: u64,
+    /// Skipped, since the type is unknown.
+    pub unknown_type: u64,
+    /// Skipped, since the type is known and the code is not.
+    pub unknown_code: u64,
     pub bad: u64,
     pub ignored: u64,
+    /// Type and code.
+    pub first_skipped: Option<(u16, u16)>,
 }
 
-impl Counts {
+impl Ran {
     /// Of a run that has not begun, and of one that is refused.
-    pub const ZEROS: Counts = Counts { shown: 0, skipped: 0, bad: 0, ignored: 0 };
+    pub const NOTHING: Ran =
+        Ran { shown: 0, unknown_type: 0, unknown_code: 0, bad: 0, ignored: 0, first_skipped: None };
+
+    /// Document 01's one count of both.
+    pub fn skipped(&self) -> u64 {
+        self.unknown_type + self.unknown_code
+    }
+
+    fn skip(&mut self, event: Event) {
+        if KNOWN_TYPES.contains(&event.kind) {
+            self.unknown_code += 1;
+        } else {
+            self.unknown_type += 1;
+        }
+        self.first_skipped.get_or_insert((event.kind, event.code));
+    }
 }
 
 /// What a question for a slot is answered.
@@ -76,28 +96,28 @@ impl Reader {
     }
 
     /// Reads the records one after the other; refusals 2 and 6.
-    pub fn run(&mut self, records: &[u8]) -> Result<Counts, Refusal> {
+    pub fn run(&mut self, records: &[u8]) -> Result<Ran, Refusal> {
         if !self.is_well_formed() {
             return Err(Refusal::State);
         }
         if records.len() % RECORD != 0 {
             return Err(Refusal::Ragged);
         }
-        let mut counts = Counts::ZEROS;
+        let mut ran = Ran::NOTHING;
         for event in events(records) {
-            self.step(event, &mut counts);
+            self.step(event, &mut ran);
         }
-        Ok(counts)
+        Ok(ran)
     }
 
     /// Reads one record by itself; refusal 2.
-    pub fn one(&mut self, event: Event) -> Result<Counts, Refusal> {
+    pub fn one(&mut self, event: Event) -> Result<Ran, Refusal> {
         if !self.is_well_formed() {
             return Err(Refusal::State);
         }
-        let mut counts = Counts::ZEROS;
-        self.step(event, &mut counts);
-        Ok(counts)
+        let mut ran = Ran::NOTHING;
+        self.step(event, &mut ran);
+        Ok(ran)
     }
 
     /// Takes the panel's whole table and current slot, after a loss; refusals 2, 7 and 8.
@@ -135,17 +155,17 @@ impl Reader {
     }
 
     #[inline]
-    fn step(&mut self, event: Event, counts: &mut Counts) {
+    fn step(&mut self, event: Event, ran: &mut Ran) {
         match self.mode {
-            Mode::Following => self.follow(event, counts),
+            Mode::Following => self.follow(event, ran),
             Mode::Dropped => {
-                counts.ignored += 1;
+                ran.ignored += 1;
                 if (event.kind, event.code) == (EV_SYN, SYN_REPORT) {
                     self.mode = Mode::Stale;
                 }
             }
             Mode::Stale => {
-                counts.ignored += 1;
+                ran.ignored += 1;
                 if (event.kind, event.code) == (EV_SYN, SYN_DROPPED) {
                     self.mode = Mode::Dropped;
                 }
@@ -154,7 +174,7 @@ impl Reader {
     }
 
     #[inline]
-    fn follow(&mut self, event: Event, counts: &mut Counts) {
+    fn follow(&mut self, event: Event, ran: &mut Ran) {
         let slot = &mut self.pending[self.current.0 as usize];
         let taken = match (event.kind, event.code) {
             (EV_ABS, ABS_MT_POSITION_X) => in_range(event.value, self.setup.largest_x).map(|x| slot.x = x),
@@ -165,25 +185,22 @@ impl Reader {
             (EV_ABS, ABS_MT_TRACKING_ID) => id_in_range(event.value).map(|id| slot.id = id),
             (EV_ABS, ABS_MT_SLOT) => in_range(event.value, self.setup.slots as u32 - 1)
                 .map(|number| self.current = SlotNumber(u64::from(number))),
-            (EV_SYN, SYN_REPORT) => return self.report(counts),
+            (EV_SYN, SYN_REPORT) => return self.report(ran),
             (EV_SYN, SYN_DROPPED) => return self.lose(Mode::Dropped),
-            _ => {
-                counts.skipped += 1;
-                return;
-            }
+            _ => return ran.skip(event),
         };
         if taken.is_none() {
-            counts.bad += 1;
+            ran.bad += 1;
             self.lose(Mode::Dropped);
         }
     }
 
-    fn report(&mut self, counts: &mut Counts) {
+    fn report(&mut self, ran: &mut Ran) {
         if live_ids_differ(&self.pending) {
             self.shown = self.pending;
-            counts.shown += 1;
+            ran.shown += 1;
         } else {
-            counts.bad += 1;
+            ran.bad += 1;
             self.lose(Mode::Stale);
         }
     }

@@ -4,7 +4,7 @@ use std::fmt;
 
 use crate::events::Event;
 use crate::pod::{Pod, Report, PLACES};
-use crate::reader::{Asked, Counts, Mode, Reader};
+use crate::reader::{Asked, Mode, Ran, Reader};
 use crate::refusal::Refusal;
 use crate::table::{Setup, Slot, SlotNumber, Table, TrackingId, EMPTY, SLOTS, SLOT_NUMBERS};
 use crate::writer::{Writer, Written};
@@ -180,17 +180,17 @@ impl Call {
             }
             Call::Run { reader, bytes } => {
                 let mut reader = reader.clone();
-                let counts = reader.run(bytes);
-                line.verdict(&counts);
+                let ran = reader.run(bytes);
+                line.verdict(&ran);
                 line.reader(&reader);
-                line.counts(counts.unwrap_or(Counts::ZEROS));
+                line.ran(ran.unwrap_or(Ran::NOTHING));
             }
             Call::One { reader, event } => {
                 let mut reader = reader.clone();
-                let counts = reader.one(*event);
-                line.verdict(&counts);
+                let ran = reader.one(*event);
+                line.verdict(&ran);
                 line.reader(&reader);
-                line.counts(counts.unwrap_or(Counts::ZEROS));
+                line.ran(ran.unwrap_or(Ran::NOTHING));
             }
             Call::Load { reader, current, image } => {
                 let mut reader = reader.clone();
@@ -414,11 +414,12 @@ impl Line {
         self.all(&pod.bytes);
     }
 
-    fn counts(&mut self, counts: Counts) {
-        self.put(counts.shown);
-        self.put(counts.skipped);
-        self.put(counts.bad);
-        self.put(counts.ignored);
+    fn ran(&mut self, ran: Ran) {
+        self.all(&[ran.shown, ran.unknown_type, ran.unknown_code, ran.bad, ran.ignored]);
+        match ran.first_skipped {
+            Some((kind, code)) => self.all(&[kind, code]),
+            None => self.put("none"),
+        }
     }
 }
 
@@ -438,8 +439,19 @@ mod tests {
         let landed = format!("0 0 0 0 {}", UNUSED.repeat(15));
         assert_eq!(
             answer(&format!("one 1 4000 4000 255 0 0 {table}{table}3 57 0")),
-            format!("0 1 4000 4000 255 0 0 {table}{landed}0 0 0 0")
+            format!("0 1 4000 4000 255 0 0 {table}{landed}0 0 0 0 0 none")
         );
+    }
+
+    #[test]
+    fn what_was_skipped_first_comes_last() {
+        let table = UNUSED.repeat(16);
+        let reader = format!("1 4000 4000 255 0 0 {table}{table}");
+        assert_eq!(answer(&format!("one {reader}3 48 7")), format!("0 {reader}0 0 1 0 0 3 48"));
+        assert_eq!(answer(&format!("one {reader}1 330 1")), format!("0 {reader}0 1 0 0 0 1 330"));
+        let records = "4 0 4 0 7 0 0 0 0 0 2 0 0 0 0 0 0 0 0 0 0 0 0 0";
+        assert_eq!(answer(&format!("run {reader}{records}")), format!("0 {reader}1 1 1 0 0 4 4"));
+        assert_eq!(answer(&format!("run {reader}{records} 0")), format!("6 {reader}0 0 0 0 0 none"));
     }
 
     #[test]

@@ -2,6 +2,7 @@
 
 use std::collections::BTreeMap;
 
+use crate::events::KNOWN_TYPES;
 use crate::maker::TRIED;
 use crate::script::{is_passed_over, lines_of, BAD_LINE, HEAD_NUMBERS, POD_NUMBERS, READER_NUMBERS, WRITER_NUMBERS};
 use crate::writer::MOST_EVENTS;
@@ -16,15 +17,23 @@ const EXPECTED: &[&str] = &[
     "run 2",
     "run 6",
     "run: tables shown",
-    "run: skipped",
+    "run: unknown type",
+    "run: unknown code",
     "run: bad",
     "run: ignored",
+    "run: none skipped",
+    "run: first skipped by its type",
+    "run: first skipped by its code",
     "one 0",
     "one 2",
     "one: tables shown",
-    "one: skipped",
+    "one: unknown type",
+    "one: unknown code",
     "one: bad",
     "one: ignored",
+    "one: none skipped",
+    "one: first skipped by its type",
+    "one: first skipped by its code",
     "one: following to following",
     "one: following to dropped",
     "one: following to stale",
@@ -81,7 +90,7 @@ const EXPECTED: &[&str] = &[
 ];
 
 const MODES: [&str; 3] = ["following", "dropped", "stale"];
-const COUNTS: [&str; 4] = ["tables shown", "skipped", "bad", "ignored"];
+const COUNTS: [&str; 5] = ["tables shown", "unknown type", "unknown code", "bad", "ignored"];
 
 /// Places in the answer to a `write`; between the two stands the number of the changed slots.
 const EVENTS: usize = WRITER_NUMBERS + 1;
@@ -201,6 +210,13 @@ impl Tally {
                 self.note(format!("{name}: {what}"));
             }
         }
+        let first = match said.at(READER_NUMBERS + 1 + COUNTS.len()) {
+            "" => return,
+            "none" => "none skipped",
+            kind if KNOWN_TYPES.iter().any(|known| kind == known.to_string()) => "first skipped by its code",
+            _ => "first skipped by its type",
+        };
+        self.note(format!("{name}: {first}"));
     }
 
     fn count_written(&mut self, call: &Words, said: &Words) {

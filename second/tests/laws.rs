@@ -5,7 +5,7 @@ mod common;
 use common::bytes;
 use second::events::*;
 use second::maker::Maker;
-use second::reader::{Mode, Reader};
+use second::reader::{Mode, Ran, Reader};
 use second::script::Call;
 use second::table::{Slot, TrackingId};
 use second::writer::{Writer, LARGEST_FRAME, MOST_EVENTS};
@@ -73,9 +73,8 @@ fn frames() {
             shown: writer.table,
             pending: writer.table,
         };
-        let counts = reader.run(&buffer[start..end]).unwrap();
-        assert_eq!(counts.shown, u64::from(written.events > 0));
-        assert_eq!((counts.skipped, counts.bad, counts.ignored), (0, 0, 0));
+        let ran = reader.run(&buffer[start..end]).unwrap();
+        assert_eq!(ran, Ran { shown: u64::from(written.events > 0), ..Ran::NOTHING });
         assert_eq!(reader.shown, after.table);
         assert_eq!(reader.pending, after.table);
         assert_eq!(reader.current, after.current);
@@ -101,6 +100,10 @@ fn frames() {
     assert!(accepted > 2000);
 }
 
+fn five(ran: &Ran) -> [u64; 5] {
+    [ran.shown, ran.unknown_type, ran.unknown_code, ran.bad, ran.ignored]
+}
+
 #[test]
 fn runs_are_their_records_one_after_the_other() {
     for call in calls(22, 6_000) {
@@ -108,21 +111,30 @@ fn runs_are_their_records_one_after_the_other() {
             continue;
         };
         let mut after = reader.clone();
-        let Ok(counts) = after.run(&records) else {
+        let Ok(ran) = after.run(&records) else {
             assert_eq!(after, reader);
             continue;
         };
         assert!(after.is_well_formed());
         let mut slow = reader.clone();
-        let mut sums = [0; 4];
+        let mut sums = [0; 5];
+        let mut skipped = Vec::new();
         for event in events(&records) {
             let one = slow.one(event).unwrap();
-            for (sum, count) in sums.iter_mut().zip([one.shown, one.skipped, one.bad, one.ignored]) {
+            for (sum, count) in sums.iter_mut().zip(five(&one)) {
                 *sum += count;
             }
+            // One record is skipped, and then named, or it is not.
+            assert_eq!(one.first_skipped.is_some() as u64, one.skipped());
+            skipped.extend(one.first_skipped);
         }
         assert_eq!(slow, after);
-        assert_eq!(sums, [counts.shown, counts.skipped, counts.bad, counts.ignored]);
+        assert_eq!(sums, five(&ran));
+        assert_eq!(ran.first_skipped, skipped.first().copied());
+        let unknown_type = |pair: &&(u16, u16)| pair.0 != 0 && pair.0 != 3;
+        assert_eq!(ran.unknown_type as usize, skipped.iter().filter(unknown_type).count());
+        assert_eq!(ran.skipped() as usize, skipped.len());
+        assert!(skipped.iter().all(|pair| !LISTED.contains(pair)));
     }
 }
 

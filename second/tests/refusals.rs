@@ -5,7 +5,7 @@ mod common;
 use common::*;
 use second::events::Event;
 use second::pod::{Pod, Report};
-use second::reader::{Asked, Counts, Mode, Reader};
+use second::reader::{Asked, Mode, Ran, Reader};
 use second::refusal::Refusal;
 use second::table::{Setup, SlotNumber, TrackingId};
 use second::writer::Writer;
@@ -87,7 +87,7 @@ fn a_reader_that_is_not_well_formed() {
     }
     let mut reader = any_reader(Mode::Following);
     reader.pending[0].id = TrackingId(1);
-    assert_eq!(reader.run(&[]), Ok(Counts::ZEROS), "pending ids may repeat");
+    assert_eq!(reader.run(&[]), Ok(Ran::NOTHING), "pending ids may repeat");
 }
 
 #[test]

@@ -5,7 +5,7 @@ mod common;
 use common::*;
 use second::events::*;
 use second::pod::{Pod, Report, Stick};
-use second::reader::{Asked, Counts, Mode, Reader};
+use second::reader::{Asked, Mode, Ran, Reader};
 use second::table::SlotNumber;
 
 fn abs(code: u16, value: i32) -> Event {
@@ -123,9 +123,9 @@ fn bad_values_are_a_loss() {
         abs(ABS_MT_TRACKING_ID, -9),
     ] {
         let mut reader = following(1, &fingers);
-        let counts = reader.run(&bytes(&[event, abs(ABS_MT_POSITION_X, 5), Event::REPORT]));
-        let expected = Counts { bad: 1, ignored: 2, ..Counts::ZEROS };
-        assert_eq!(counts, Ok(expected));
+        let ran = reader.run(&bytes(&[event, abs(ABS_MT_POSITION_X, 5), Event::REPORT]));
+        let expected = Ran { bad: 1, ignored: 2, ..Ran::NOTHING };
+        assert_eq!(ran, Ok(expected));
         assert_eq!(reader, Reader { mode: Mode::Stale, ..following(1, &fingers) });
     }
 }
@@ -139,8 +139,8 @@ fn a_repeated_id_is_bad_once_and_stale() {
         events.push(abs(ABS_MT_TRACKING_ID, 4));
     }
     events.push(Event::REPORT);
-    let counts = reader.run(&bytes(&events)).unwrap();
-    assert_eq!((counts.bad, counts.shown), (1, 0));
+    let ran = reader.run(&bytes(&events)).unwrap();
+    assert_eq!((ran.bad, ran.shown), (1, 0));
     assert_eq!(reader.mode, Mode::Stale);
     assert_eq!(reader.current, SlotNumber(2));
     assert_eq!(reader.pending, reader.shown);
@@ -159,7 +159,7 @@ fn five_hundred_events_and_a_report_show_a_table() {
 fn counts_and_modes() {
     let mut reader = following(0, &[slot(-1, 0, 0, 0)]);
     let unknown = Event { kind: 3, code: 0x3ff, value: 1 };
-    let counts = reader
+    let ran = reader
         .run(&bytes(&[
             Event::REPORT,
             unknown,
@@ -173,6 +173,7 @@ fn counts_and_modes() {
             Event::DROPPED,
         ]))
         .unwrap();
-    assert_eq!(counts, Counts { shown: 2, skipped: 1, bad: 0, ignored: 6 });
+    let expected = Ran { shown: 2, unknown_code: 1, ignored: 6, first_skipped: Some((3, 0x3ff)), ..Ran::NOTHING };
+    assert_eq!((ran, ran.skipped()), (expected, 1));
     assert_eq!(reader.mode, Mode::Dropped);
 }

@@ -9,6 +9,9 @@ const TYPES: u64 = 0x20;
 const ABS_CODES: u64 = 0x40;
 const SYN_CODES: u64 = 0x10;
 
+/// It closes a contact of a type A panel, and stands between the two listed codes of its type.
+const SYN_MT_REPORT: (u16, u16) = (EV_SYN, 2);
+
 /// Neighbours of the listed types and codes, and those that a cut or swapped half-word would take for one.
 const UNLISTED: &[(u16, u16)] = &[
     (0, 1),
@@ -101,20 +104,61 @@ impl Maker {
 
     /// A type and code that are not listed, most of them beside listed ones.
     pub(super) fn unknown_event(&mut self) -> Event {
-        let (kind, code) = loop {
-            let pair = self.beside_listed();
-            if !LISTED.contains(&pair) {
-                break pair;
+        self.unknown_where(|_| true)
+    }
+
+    /// The same, of types that the test takes.
+    pub(super) fn unknown_where(&mut self, is_wanted: fn(u16) -> bool) -> Event {
+        loop {
+            let (kind, code) = self.beside_listed();
+            if is_wanted(kind) && !LISTED.contains(&(kind, code)) {
+                return self.unknown(kind, code);
             }
-        };
+        }
+    }
+
+    /// The next in turn: every code that Linux has of the known types, then each of its types. Chance would take long to name them all.
+    pub(super) fn next_unknown(&mut self) -> Event {
+        loop {
+            let i = self.next_unknown;
+            self.next_unknown = (i + 1) % (ABS_CODES + SYN_CODES + TYPES);
+            let (kind, code) = match i {
+                _ if i < ABS_CODES => (EV_ABS, i as u16),
+                _ if i < ABS_CODES + SYN_CODES => (EV_SYN, (i - ABS_CODES) as u16),
+                _ => ((i - ABS_CODES - SYN_CODES) as u16, self.random.pick(&LISTED).1),
+            };
+            if !LISTED.contains(&(kind, code)) {
+                return self.unknown(kind, code);
+            }
+        }
+    }
+
+    fn unknown(&mut self, kind: u16, code: u16) -> Event {
+        self.tag(match (kind, code) {
+            SYN_MT_REPORT => "record: SYN_MT_REPORT",
+            (EV_SYN, _) => "record: unknown code of type 0",
+            (EV_ABS, _) => "record: unknown code of type 3",
+            _ => "record: unknown type",
+        });
         Event { kind, code, value: self.random.pick(&[0, 1, -1, 5, i32::MIN, i32::MAX]) }
+    }
+
+    /// An event that a following reader does not skip.
+    pub(super) fn listed_event(&mut self, reader: &Reader) -> Event {
+        loop {
+            let event = self.event(reader, false);
+            if LISTED.contains(&(event.kind, event.code)) {
+                return event;
+            }
+        }
     }
 
     fn beside_listed(&mut self) -> (u16, u16) {
         let (kind, code) = self.random.pick(&LISTED);
         let bit = 1u16 << self.random.below(16);
-        match self.random.below(12) {
+        match self.random.below(13) {
             0 => self.random.pick(UNLISTED),
+            12 => self.random.pick(&[SYN_MT_REPORT, SYN_MT_REPORT, (EV_SYN, 1), (EV_SYN, 4)]),
             1..=3 => (kind ^ bit, code),
             4..=6 => (kind, code ^ bit),
             7 | 8 => (self.random.below(TYPES) as u16, code),

@@ -1,7 +1,7 @@
 //! Calls that read records: runs of any length, and single ones.
 
 use super::{Maker, LONGEST_RUN};
-use crate::events::{Event, RECORD};
+use crate::events::{Event, ABS_MT_POSITION_X, KNOWN_TYPES, RECORD};
 use crate::reader::{Mode, Reader};
 use crate::script::Call;
 use crate::table::live_ids_differ;
@@ -53,8 +53,11 @@ impl Maker {
             return buffer[..written.events as usize * RECORD].to_vec();
         }
         // A lost reader would only ignore them.
-        if reader.mode == Mode::Following && self.random.once_in(40) {
+        if reader.mode == Mode::Following && self.random.once_in(25) {
             return self.many_alike(reader);
+        }
+        if reader.mode == Mode::Following && self.random.once_in(8) {
+            return self.around_loss(reader);
         }
         let count = if self.random.once_in(60) {
             self.tag("run: long");
@@ -77,22 +80,46 @@ impl Maker {
         bytes
     }
 
-    /// Hundreds of records that add to one count: skipped, shown, or ignored behind a loss.
+    /// Hundreds of records that add to one count: skipped for either reason, shown, or ignored behind a loss.
     fn many_alike(&mut self, reader: &Reader) -> Vec<u8> {
         self.tag("run: many alike");
         let some = self.random.from_to(MANY, MOST);
         let count = self.random.pick(&[some, MOST]);
-        let which = self.random.pick(&[0, 0, 1, 2]);
-        let mut bytes = if which == 2 { Event::DROPPED.to_bytes().to_vec() } else { Vec::new() };
+        let which = self.random.below(5);
+        let mut bytes = if which == 4 { Event::DROPPED.to_bytes().to_vec() } else { Vec::new() };
         while bytes.len() < count as usize * RECORD {
             let event = match which {
                 _ if self.random.once_in(50) => self.event(reader, false),
-                0 => self.unknown_event(),
+                0 => self.unknown_where(|kind| !KNOWN_TYPES.contains(&kind)),
+                1 => self.unknown_where(|kind| KNOWN_TYPES.contains(&kind)),
                 _ => Event::REPORT,
             };
             bytes.extend(event.to_bytes());
         }
         bytes
+    }
+
+    /// A loss with unknown records before it, behind it, or both. Those behind it are not skipped but ignored.
+    fn around_loss(&mut self, reader: &Reader) -> Vec<u8> {
+        let (before, behind) = self.random.pick(&[(1, 0), (0, 1), (0, 1), (1, 1), (2, 2)]);
+        self.tag(if before > 0 { "run: skipped before a loss" } else { "run: unknown behind a loss alone" });
+        let mut events: Vec<Event> = Vec::new();
+        for _ in 0..self.random.below(4) {
+            events.push(self.listed_event(reader));
+        }
+        for _ in 0..before {
+            events.push(self.unknown_event());
+        }
+        let bad = Event::abs(ABS_MT_POSITION_X, self.bad_number(reader.setup.largest_x));
+        events.push(self.random.pick(&[Event::DROPPED, Event::DROPPED, bad]));
+        // Dropped or stale.
+        for _ in 0..self.random.below(2) {
+            events.push(Event::REPORT);
+        }
+        for _ in 0..behind {
+            events.push(self.unknown_event());
+        }
+        events.iter().flat_map(|event| event.to_bytes()).collect()
     }
 
     pub(super) fn one(&mut self) -> Call {
@@ -102,6 +129,8 @@ impl Maker {
         self.tag(if rough { "one: rough" } else { "one: calm" });
         let event = if rough {
             self.rough_event(&reader)
+        } else if self.random.once_in(4) {
+            self.next_unknown()
         } else if reader.mode != Mode::Following && self.random.once_in(4) {
             // The two that can move a lost reader on.
             self.random.pick(&[Event::REPORT, Event::DROPPED])

@@ -1,20 +1,20 @@
-//! Mistakes in what records do: losses, what is pending and shown, the four counts, and the length of a run.
+//! Mistakes in what records do: losses, what is pending and shown, the counts, and the length of a run.
 
 use second::events::*;
-use second::reader::{Counts, Mode, Reader};
+use second::reader::{Mode, Ran, Reader};
 use second::script::{Call, READER_NUMBERS};
 use second::table::{Slot, SlotNumber, TrackingId};
 
 use crate::states::{ids_meet, too_few_bits};
-use crate::wrong::{judges_early, right_step, says, steps, takes, Wrong};
+use crate::wrong::{judges_early, right_step, says, skipped, steps, takes, Wrong};
 
-/// It does the right thing and then something else: the reader before, the event, the reader after, the counts.
-fn after(name: &str, more: impl Fn(&Reader, Event, &mut Reader, &mut Counts) + 'static) -> Wrong {
+/// It does the right thing and then something else: the reader before, the event, the reader after, what is told.
+fn after(name: &str, more: impl Fn(&Reader, Event, &mut Reader, &mut Ran) + 'static) -> Wrong {
     steps(name, move |reader, event| {
         let before = reader.clone();
-        let mut counts = right_step(reader, event);
-        more(&before, event, reader, &mut counts);
-        counts
+        let mut ran = right_step(reader, event);
+        more(&before, event, reader, &mut ran);
+        ran
     })
 }
 
@@ -32,18 +32,18 @@ fn is_lost(before: &Reader, now: &Reader) -> bool {
 
 fn losses() -> Vec<Wrong> {
     vec![
-        after("a bad value makes it stale", |_, _, now, counts| {
-            if counts.bad == 1 && now.mode == Mode::Dropped {
+        after("a bad value makes it stale", |_, _, now, ran| {
+            if ran.bad == 1 && now.mode == Mode::Dropped {
                 now.mode = Mode::Stale;
             }
         }),
-        after("a repeated id makes it dropped", |_, _, now, counts| {
-            if counts.bad == 1 && now.mode == Mode::Stale {
+        after("a repeated id makes it dropped", |_, _, now, ran| {
+            if ran.bad == 1 && now.mode == Mode::Stale {
                 now.mode = Mode::Dropped;
             }
         }),
-        after("a repeated id is shown all the same", |before, _, now, counts| {
-            if counts.bad == 1 && now.mode == Mode::Stale {
+        after("a repeated id is shown all the same", |before, _, now, ran| {
+            if ran.bad == 1 && now.mode == Mode::Stale {
                 *now = Reader { shown: before.pending, ..before.clone() };
             }
         }),
@@ -84,12 +84,12 @@ fn losses() -> Vec<Wrong> {
             }
         }),
         steps("a slot is taken while lost", |reader, event| {
-            let counts = right_step(reader, event);
+            let ran = right_step(reader, event);
             let is_slot = (event.kind, event.code) == (EV_ABS, ABS_MT_SLOT);
-            if counts.ignored == 1 && is_slot && (0..reader.setup.slots as i32).contains(&event.value) {
+            if ran.ignored == 1 && is_slot && (0..reader.setup.slots as i32).contains(&event.value) {
                 reader.current = SlotNumber(event.value as u64);
             }
-            counts
+            ran
         }),
         steps("a report has value 0", |reader, event| {
             right_step(reader, if is_report(event) && event.value != 0 { Event::abs(0, 0) } else { event })
@@ -132,19 +132,19 @@ fn tables() -> Vec<Wrong> {
         steps("ids are compared at a report in the first eight slots", |reader, event| {
             let mut few = reader.clone();
             few.pending[8..].iter_mut().for_each(|slot| slot.id = TrackingId::UNUSED);
-            let counts = right_step(&mut few, event);
-            if counts.shown == 1 {
+            let ran = right_step(&mut few, event);
+            if ran.shown == 1 {
                 reader.shown = reader.pending;
-                return counts;
+                return ran;
             }
             right_step(reader, event)
         }),
     ];
     for (how, bits) in too_few_bits() {
-        all.push(after(&format!("ids are compared {how} at a report"), move |before, _, now, counts| {
-            if counts.shown == 1 && ids_meet(before.pending.iter().map(|slot| slot.id.0), bits) {
+        all.push(after(&format!("ids are compared {how} at a report"), move |before, _, now, ran| {
+            if ran.shown == 1 && ids_meet(before.pending.iter().map(|slot| slot.id.0), bits) {
                 *now = Reader { mode: Mode::Stale, pending: before.shown, ..before.clone() };
-                *counts = Counts { bad: 1, ..Counts::ZEROS };
+                *ran = Ran { bad: 1, ..Ran::NOTHING };
             }
         }));
     }
@@ -159,34 +159,36 @@ fn repeats(slots: &[Slot]) -> u64 {
 
 fn counts() -> Vec<Wrong> {
     let mut all = vec![
-        after("SYN_DROPPED while following is ignored", |before, event, _, counts| {
-            counts.ignored += u64::from(before.mode == Mode::Following && is_dropped(event));
+        after("SYN_DROPPED while following is ignored", |before, event, _, ran| {
+            ran.ignored += u64::from(before.mode == Mode::Following && is_dropped(event));
         }),
-        after("SYN_DROPPED while following is bad", |before, event, _, counts| {
-            counts.bad += u64::from(before.mode == Mode::Following && is_dropped(event));
+        after("SYN_DROPPED while following is bad", |before, event, _, ran| {
+            ran.bad += u64::from(before.mode == Mode::Following && is_dropped(event));
         }),
-        after("the report that makes it stale is not ignored", |before, _, now, counts| {
-            counts.ignored *= u64::from(before.mode == now.mode || now.mode == Mode::Dropped);
+        after("the report that makes it stale is not ignored", |before, _, now, ran| {
+            ran.ignored *= u64::from(before.mode == now.mode || now.mode == Mode::Dropped);
         }),
-        after("the SYN_DROPPED that makes it dropped is not ignored", |before, _, now, counts| {
-            counts.ignored *= u64::from(before.mode == now.mode || now.mode == Mode::Stale);
+        after("the SYN_DROPPED that makes it dropped is not ignored", |before, _, now, ran| {
+            ran.ignored *= u64::from(before.mode == now.mode || now.mode == Mode::Stale);
         }),
-        after("a bad value while lost is bad", |before, event, _, counts| {
-            counts.bad += u64::from(before.mode != Mode::Following && event.kind == EV_ABS && event.value < -1);
+        after("a bad value while lost is bad", |before, event, _, ran| {
+            ran.bad += u64::from(before.mode != Mode::Following && event.kind == EV_ABS && event.value < -1);
         }),
-        after("a bad value is ignored too", |_, _, _, counts| counts.ignored += counts.bad),
-        after("what is unknown while lost is skipped", |_, event, _, counts| {
-            counts.skipped += counts.ignored * u64::from(!LISTED.contains(&(event.kind, event.code)));
+        after("a bad value is ignored too", |_, _, _, ran| ran.ignored += ran.bad),
+        after("what is unknown while lost is skipped", |_, event, _, ran| {
+            if ran.ignored == 1 && !LISTED.contains(&(event.kind, event.code)) {
+                *ran = Ran { ignored: 1, first_skipped: None, ..skipped(event) };
+            }
         }),
-        after("an empty report shows nothing", |before, _, _, counts| {
-            counts.shown *= u64::from(before.pending != before.shown);
+        after("an empty report shows nothing", |before, _, _, ran| {
+            ran.shown *= u64::from(before.pending != before.shown);
         }),
-        after("each repeated id is bad", |before, event, _, counts| {
-            counts.bad *= if is_report(event) { repeats(&before.pending) } else { 1 };
+        after("each repeated id is bad", |before, event, _, ran| {
+            ran.bad *= if is_report(event) { repeats(&before.pending) } else { 1 };
         }),
-        after("a repeated id is not bad", |_, event, _, counts| counts.bad *= u64::from(!is_report(event))),
+        after("a repeated id is not bad", |_, event, _, ran| ran.bad *= u64::from(!is_report(event))),
     ];
-    for (i, name) in ["tables shown", "skipped", "bad", "ignored"].into_iter().enumerate() {
+    for (i, name) in ["tables shown", "unknown type", "unknown code", "bad", "ignored"].into_iter().enumerate() {
         for bits in [7, 8, 9, 10] {
             // A run is lost by the first bad one.
             if name == "bad" {

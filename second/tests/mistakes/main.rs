@@ -9,6 +9,7 @@ mod losses;
 mod pods;
 mod records;
 mod sent;
+mod skips;
 mod slow_writer;
 mod states;
 mod wrong;
@@ -79,6 +80,11 @@ fn of_records() {
 #[test]
 fn of_losses_and_counts() {
     all_are_noticed("losses", losses::all());
+}
+
+#[test]
+fn of_skipped_records() {
+    all_are_noticed("skips", skips::all());
 }
 
 #[test]

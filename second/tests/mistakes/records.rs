@@ -1,21 +1,26 @@
 //! Mistakes in what a record is taken for: types and codes, and the ranges of values.
 
 use second::events::*;
-use second::reader::Counts;
+use second::reader::Ran;
 use second::table::Setup;
 
-use crate::wrong::{right_step, steps, Wrong};
+use crate::wrong::{right_step, skipped, steps, Wrong};
 
 /// The types that Linux has, and the codes of its types EV_ABS and EV_SYN.
 const TYPES: u16 = 0x20;
 const ABS_CODES: u16 = 0x40;
 const SYN_CODES: u16 = 0x10;
 
-/// It takes one type and code for another.
+/// It takes one type and code for another, but counts and names what it skips by its own.
 fn takes_code(name: String, of: impl Fn(u16, u16) -> (u16, u16) + 'static) -> Wrong {
     steps(name, move |reader, event| {
         let (kind, code) = of(event.kind, event.code);
-        right_step(reader, Event { kind, code, ..event })
+        let ran = right_step(reader, Event { kind, code, ..event });
+        if ran.skipped() == 1 {
+            skipped(event)
+        } else {
+            ran
+        }
     })
 }
 
@@ -59,11 +64,11 @@ fn uncounted() -> Vec<Wrong> {
         .filter(|unknown| !LISTED.contains(unknown))
         .map(|(kind, code)| {
             steps(format!("type {kind}, code {code:#x} is not counted"), move |reader, event| {
-                let counts = right_step(reader, event);
+                let ran = right_step(reader, event);
                 if (event.kind, event.code) == (kind, code) {
-                    Counts { skipped: 0, ..counts }
+                    Ran { unknown_type: 0, unknown_code: 0, ..ran }
                 } else {
-                    counts
+                    ran
                 }
             })
         })

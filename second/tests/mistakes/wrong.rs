@@ -1,8 +1,8 @@
 //! What a wrong program is: it answers as the rules do, but for one mistake. The mistake stands around the rules and never in them.
 
-use second::events::{events, Event};
+use second::events::{events, Event, EV_ABS, EV_SYN};
 use second::pod::{Pod, Report};
-use second::reader::{Counts, Reader};
+use second::reader::{Ran, Reader};
 use second::refusal::Refusal;
 use second::script::{marks, Call, InWords, READER_NUMBERS, WRITER_NUMBERS};
 use second::writer::Writer;
@@ -71,7 +71,16 @@ pub fn says(name: impl Into<String>, change: impl Fn(&Call, &mut Vec<String>) + 
 }
 
 /// It reads a record otherwise. The reader that it is handed is well formed, until its mistake makes another of it.
-pub fn steps(name: impl Into<String>, step: impl Fn(&mut Reader, Event) -> Counts + 'static) -> Wrong {
+pub fn steps(name: impl Into<String>, step: impl Fn(&mut Reader, Event) -> Ran + 'static) -> Wrong {
+    runs(name, step, |records| records.iter().find_map(|(_, ran)| ran.first_skipped))
+}
+
+/// It reads a record otherwise, or finds another first skipped one among the records and what each of them told.
+pub fn runs(
+    name: impl Into<String>,
+    step: impl Fn(&mut Reader, Event) -> Ran + 'static,
+    first: impl Fn(&[(Event, Ran)]) -> Option<(u16, u16)> + 'static,
+) -> Wrong {
     answers(name, move |asked| {
         let (mut reader, events) = match asked.call? {
             Call::Run { reader, bytes } => (reader.clone(), events(bytes).collect()),
@@ -81,21 +90,33 @@ pub fn steps(name: impl Into<String>, step: impl Fn(&mut Reader, Event) -> Count
         if refusal(asked.right, asked.call?) != 0 {
             return None;
         }
-        let mut sum = Counts::ZEROS;
-        for event in events {
-            let counts = step(&mut reader, event);
-            sum.shown += counts.shown;
-            sum.skipped += counts.skipped;
-            sum.bad += counts.bad;
-            sum.ignored += counts.ignored;
+        let records: Vec<_> = events.into_iter().map(|event| (event, step(&mut reader, event))).collect();
+        let mut sum = Ran { first_skipped: first(&records), ..Ran::NOTHING };
+        for (_, ran) in records {
+            sum.shown += ran.shown;
+            sum.unknown_type += ran.unknown_type;
+            sum.unknown_code += ran.unknown_code;
+            sum.bad += ran.bad;
+            sum.ignored += ran.ignored;
         }
-        Some(format!("0 {} {}", reader_text(&reader), counts_text(&sum)))
+        Some(format!("0 {} {}", reader_text(&reader), ran_text(&sum)))
     })
 }
 
 /// The right step. A reader that a mistake broke is one that no rule tells of: its answer differs already.
-pub fn right_step(reader: &mut Reader, event: Event) -> Counts {
-    reader.one(event).unwrap_or(Counts::ZEROS)
+pub fn right_step(reader: &mut Reader, event: Event) -> Ran {
+    reader.one(event).unwrap_or(Ran::NOTHING)
+}
+
+/// What is told of a record that is skipped.
+pub fn skipped(event: Event) -> Ran {
+    let is_known = matches!(event.kind, EV_SYN | EV_ABS);
+    Ran {
+        unknown_type: u64::from(!is_known),
+        unknown_code: u64::from(is_known),
+        first_skipped: Some((event.kind, event.code)),
+        ..Ran::NOTHING
+    }
 }
 
 /// It takes a pod's byte otherwise.
@@ -142,7 +163,9 @@ fn refused(call: &Call, number: u8) -> String {
     match call {
         Call::Fresh(_) => format!("{number}{}", " 0".repeat(READER_NUMBERS)),
         Call::New(_) => format!("{number}{}", " 0".repeat(WRITER_NUMBERS)),
-        Call::Run { reader, .. } | Call::One { reader, .. } => format!("{number} {} 0 0 0 0", reader_text(reader)),
+        Call::Run { reader, .. } | Call::One { reader, .. } => {
+            format!("{number} {} {}", reader_text(reader), ran_text(&Ran::NOTHING))
+        }
         Call::Load { reader, .. } => format!("{number} {}", reader_text(reader)),
         Call::Ask { .. } => format!("refused {number}"),
         Call::Good { .. } => "0".to_string(),
@@ -172,8 +195,9 @@ fn numbers_of(call: &Call) -> String {
     call.line()[call.name().len() + 1..].to_string()
 }
 
-fn counts_text(counts: &Counts) -> String {
-    format!("{} {} {} {}", counts.shown, counts.skipped, counts.bad, counts.ignored)
+fn ran_text(ran: &Ran) -> String {
+    let first = ran.first_skipped.map_or("none".to_string(), |(kind, code)| format!("{kind} {code}"));
+    format!("{} {} {} {} {} {first}", ran.shown, ran.unknown_type, ran.unknown_code, ran.bad, ran.ignored)
 }
 
 /// Bytes as they stand behind the `:` of an answer.
