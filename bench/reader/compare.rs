@@ -29,10 +29,10 @@ struct Answer {
 
 // What stands in an answer's place before a call that tells it, so that a number that is not told shows; and zeros.
 const UNTOLD: (Counts, Told) = (
-    Counts { shown: 77, skipped: 77, bad: 77, ignored: 77 },
+    Counts::all(77),
     Told { kind: 77, slot: Slot { id: 77, x: 77, y: 77, pressure: 77 } },
 );
-const ZEROS: (Counts, Told) = (Counts { shown: 0, skipped: 0, bad: 0, ignored: 0 }, Told { kind: EMPTY, slot: ZERO });
+const ZEROS: (Counts, Told) = (Counts::all(0), Told { kind: EMPTY, slot: ZERO });
 
 fn answer_of(version: &Version, state: &State, call: &Call) -> Answer {
     let (mut state, mut counts, mut told) = (*state, ZEROS.0, ZEROS.1);

@@ -26,7 +26,7 @@ fn absolute(state: &mut State, code: u16, value: i32, counts: &mut Counts) -> bo
         0x36 if within(setup.y) => slot.y = value as u32,
         0x3a if within(setup.pressure) => slot.pressure = value as u32,
         0x2f | 0x39 | 0x35 | 0x36 | 0x3a => return false,
-        _ => counts.skipped += 1,
+        _ => counts.skip(3, code),
     }
     true
 }
@@ -58,7 +58,7 @@ fn follow(state: &mut State, kind: u16, code: u16, value: i32, counts: &mut Coun
                 lose(state, DROPPED);
             }
         }
-        _ => counts.skipped += 1,
+        _ => counts.skip(kind, code),
     }
 }
 

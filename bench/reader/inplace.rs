@@ -57,7 +57,7 @@ impl State {
                     lost = Some((Lost::BadValue, k));
                     break;
                 }
-                _ => counts.skipped += 1,
+                other => counts.skip(other as u16, (other >> 16) as u16),
             }
         }
         self.current = current as u32;

@@ -16,14 +16,33 @@ pub struct State {
     pub pending: Table,
 }
 
-/// A run's counts.
+/// A run's counts, and the first record skipped: 0 for none, else 2^32 with its code and type below.
 #[repr(C)]
 #[derive(Clone, Copy, PartialEq, Debug, Default)]
 pub struct Counts {
     pub shown: u64,
-    pub skipped: u64,
+    pub types: u64,
+    pub codes: u64,
     pub bad: u64,
     pub ignored: u64,
+    pub first: u64,
+}
+
+impl Counts {
+    pub const fn all(n: u64) -> Counts {
+        Counts { shown: n, types: n, codes: n, bad: n, ignored: n, first: n }
+    }
+
+    /// A record of this type and code is skipped.
+    pub fn skip(&mut self, kind: u16, code: u16) {
+        match kind {
+            0 | 3 => self.codes += 1,
+            _ => self.types += 1,
+        }
+        if self.first == 0 {
+            self.first = 1 << 32 | u64::from(code) << 16 | u64::from(kind);
+        }
+    }
 }
 
 pub const EMPTY: u32 = 0;
