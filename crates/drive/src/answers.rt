@@ -1,5 +1,4 @@
 // One function a call: its parameters from the line's numbers, the library's answer said. The numbers were held to the call's kinds before.
-use common::SlotNumber;
 use crate::calls::BUFFER;
 use crate::calls::Call;
 use crate::calls::NUMBERS;
@@ -8,6 +7,7 @@ use crate::calls::READER;
 use crate::calls::WRITER;
 use crate::say;
 use crate::states;
+use common::SlotNumber;
 use pod::PodState;
 use reader::ReaderState;
 use reader::RunAnswer;

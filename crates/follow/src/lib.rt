@@ -59,13 +59,7 @@ pub fn lost(
     }
 }
 
-fn counted(
-    shown: usize,
-    types: usize,
-    codes: usize,
-    bad: usize,
-    first: FirstSkipped,
-) -> Counts
+fn counted(shown: usize, types: usize, codes: usize, bad: usize, first: FirstSkipped) -> Counts
     ensures { λ r. ⌜ r ≡ countsFrom (countsSoFar shown types codes bad (skippedOf first)) ⌝ }
 {
     Counts {
