@@ -9,7 +9,7 @@ use lib.ListN.{length}
 use Rattle.model.specs.Panel.{base}
 use Rattle.model.specs.Events.{classify}
 use Rattle.model.specs.Records.{recordBytes, eventAt}
-use Rattle.model.specs.Reader.{step}
+use Rattle.model.specs.Reader.{step, plus}
 use Rattle.model.specs.States as S
 use Rattle.model.specs.States.{readerGood}
 use Rattle.model.specs.Calls as C
@@ -21,16 +21,19 @@ use Rattle.panel.proofs.Setups.{holds}
 use Rattle.records.specs.declared.Event.{Event}
 use Rattle.records.specs.Seen.{eventOf}
 use Rattle.records.proofs.Over.{record-length}
+use Rattle.common.specs.Seen.{verdictFrom, countsFrom}
 use Rattle.common.proofs.Back.{counts-seen}
 use Rattle.reader.specs.declared.ReaderState.{ReaderState}
 use Rattle.reader.specs.declared.RunAnswer.{RunAnswer}
-use Rattle.reader.specs.States.{seen, ranFrom}
+use Rattle.reader.specs.States.{seen, held, ranFrom}
 use Rattle.reader.proofs.Promises.{run-state, read-one-state}
 use Rattle.link.specs.Promises.{Ran, ReadOne, Sized, bytesOf, joined}
 
 -- Two answers of the model that are joined and then held are joined as they are held.
 held-joined : (a b : C.Ran) → ranFrom (C.joined a b) ≡ joined (ranFrom a) (ranFrom b)
-held-joined a b = rw (counts-seen (a .counts), counts-seen (b .counts))
+held-joined a b =
+    ap₂ {C = RunAnswer} (λ x y. record { verdict = verdictFrom (b .verdict); state = held (b .state); counts = countsFrom (plus x y) })
+    (sym (counts-seen (a .counts))) (sym (counts-seen (b .counts)))
 
 -- Of any state, and two strings of whole records: the answer to both at once is the two answers joined, the counts added up.
 pub cut : (s : ReaderState) (xs ys : List ℕ) (a b q : RunAnswer) → length xs % 8 ≡ 0 → length ys % 8 ≡ 0
