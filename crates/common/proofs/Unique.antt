@@ -2,16 +2,14 @@
 use mathlib.Core.Path.{_≡_, sym, ap, _∙_}
 use Rattle.model.specs.Unique.{OneAnswer}
 use Rattle.common.specs.declared.Mode.{Mode}
-use Rattle.common.specs.declared.FirstSkipped.{FirstSkipped}
-use Rattle.common.specs.Seen.{modeOf, modeFrom, skippedOf, skippedFrom}
-use Rattle.common.proofs.Back.{mode-back, skipped-back}
+use Rattle.common.specs.Seen.{modeOf, modeFrom}
+use Rattle.common.proofs.Back.{mode-back}
 use Rattle.common.proofs.same.Reads as same
 use Rattle.common.proofs.nat_of.Reads as nat-of
 use Rattle.common.proofs.within.Reads as within
 use Rattle.common.proofs.id_ok.Reads as id-ok
 use Rattle.common.proofs.between.Reads as between
 use Rattle.common.proofs.Verdict.number.Reads as number
-use Rattle.common.proofs.earlier.Reads as earlier
 use Rattle.common.proofs.last_mode.Reads as last-mode
 
 pub same-one : OneAnswer same.Learnt
@@ -38,10 +36,3 @@ same-mode m q e = sym (mode-back m) ∙ ap modeFrom e ∙ mode-back q
 
 pub last-mode-one : OneAnswer last-mode.Learnt
 last-mode-one κs a r q s t e g = same-mode _ _ (e ∙ sym g)
-
--- And so is a first event skipped.
-same-first : (m q : FirstSkipped) → skippedOf m ≡ skippedOf q → m ≡ q
-same-first m q e = sym (skipped-back m) ∙ ap skippedFrom e ∙ skipped-back q
-
-pub earlier-one : OneAnswer earlier.Learnt
-earlier-one κs a r q s t e g = same-first _ _ (e ∙ sym g)

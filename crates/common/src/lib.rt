@@ -6,10 +6,9 @@ ghost use lib.ListN.{length};
 ghost use Rattle.model.specs.Numbers.{eqZ, between as betweenN, betweenZ};
 ghost use Rattle.model.specs.Panel.{idField};
 ghost use Rattle.model.specs.Table.{fits};
-ghost use Rattle.model.specs.Reader.{event, earlier as earlierOf};
 ghost use Rattle.model.specs.Records.{eventsFrom};
 ghost use Rattle.records.specs.Seen.{eventOf};
-ghost use Rattle.common.specs.Seen.{natural, verdictNumber, modeOf, skippedOf};
+ghost use Rattle.common.specs.Seen.{natural, verdictNumber, modeOf};
 ghost use Rattle.common.specs.Lost.{heard, onLost, lastMode as modeAfter};
 
 // A slot number and a tracking id are kinds of number that must not be mixable: a lifted id taken for a slot would move another finger.
@@ -122,16 +121,6 @@ pub struct Counts {
     pub bad: usize,
     pub ignored: usize,
     pub first: FirstSkipped,
-}
-
-// What an event adds to the first one skipped: nothing, where there is one already.
-pub fn earlier(first: FirstSkipped, kind: u16, code: u16) -> FirstSkipped
-    ensures { λ r. ⌜ skippedOf r ≡ earlierOf (skippedOf first) (event kind code) ⌝ }
-{
-    match first {
-        FirstSkipped::None => FirstSkipped::Event(kind, code),
-        FirstSkipped::Event(k, c) => FirstSkipped::Event(k, c),
-    }
 }
 
 // The mode after a record that finds it not following.

@@ -1,10 +1,11 @@
 -- What is left of a run, and how it ends: the contracts of the loops. Assumes nothing.
 use mathlib.Core.List.{List, map}
-use Prim.Native.Nat.{ℕ}
+use Prim.Native.Nat.{ℕ, zero, suc, _+_, _*_, _≤_}
 use lib.ListN.{length}
 use Rattle.model.specs.Panel.{Panel}
 use Rattle.model.specs.Events.{Event, classify}
-use Rattle.model.specs.Reader.{Mode, Reader, read, Skipped, Counts, plus, tallies, Run}
+use Rattle.model.specs.Records.{eventAt}
+use Rattle.model.specs.Reader.{Mode, Reader, read, Skipped, none, event, Counts, plus, tallies, Run}
 use Rattle.common.specs.declared.SlotNumber.{SlotNumber}
 use Rattle.common.specs.Seen.{modeFrom, skippedFrom, countsFrom}
 use Rattle.common.specs.Lost.{lastMode}
@@ -43,3 +44,18 @@ lostAt t c m a es = record {
   mode = modeFrom (lastMode m es);
   counts = record { shown = a .shown; types = a .types; codes = a .codes; bad = a .bad; ignored = length es; first = skippedFrom (a .first) };
 }
+
+-- The first event skipped, by the number of its record, where so many were skipped.
+abbrev pub firstAt : List ℕ → ℕ → ℕ → Skipped
+firstAt bs zero i = none
+firstAt bs (suc n) i = event (eventAt bs (8 * i) .type) (eventAt bs (8 * i) .code)
+
+-- The number of that record after record k, which is skipped too.
+abbrev pub firstAfter : ℕ → ℕ → ℕ → ℕ
+firstAfter zero i k = k
+firstAfter (suc n) i k = i
+
+-- The record is there, if any was skipped.
+abbrev pub FirstWithin : ℕ → ℕ → ℕ → Type 0
+FirstWithin zero i len = Unit {0}
+FirstWithin (suc n) i len = 8 * i + 8 ≤ len

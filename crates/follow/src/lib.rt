@@ -1,7 +1,7 @@
 // A run over records: the loop of a reader that follows, which changes its tables in place, and how a run ends once track is lost. The reader's calls stand on it.
 ghost use mathlib.Core.Path.{_≡_};
 ghost use mathlib.Core.Bool.{true};
-ghost use Prim.Native.Nat.{_<_, _≤_, _-_, _*_, _/_};
+ghost use Prim.Native.Nat.{_<_, _≤_, _+_, _-_, _*_, _/_, _^_};
 ghost use lib.ListN.{length};
 ghost use Rattle.model.specs.Panel.{base, setupGood};
 ghost use Rattle.model.specs.Records.{eventsFrom, eventsOf};
@@ -9,7 +9,7 @@ ghost use Rattle.model.specs.Reader.{following, nothing};
 ghost use Rattle.common.specs.Seen.{modeOf, skippedOf, countsOf, countsFrom};
 ghost use Rattle.panel.specs.Seen.{setupOf, panelSeen, unusedAll, sameFrom};
 ghost use Rattle.follow.specs.Seen.{readerOf};
-ghost use Rattle.follow.specs.Runs.{onward, counted as countsSoFar, endedFrom, lostAt};
+ghost use Rattle.follow.specs.Runs.{onward, counted as countsSoFar, endedFrom, lostAt, FirstWithin, firstAt, firstAfter};
 use acts::Act;
 use common::Counts;
 use common::FirstSkipped;
@@ -59,9 +59,33 @@ pub fn lost(
     }
 }
 
-fn counted(shown: usize, types: usize, codes: usize, bad: usize, first: FirstSkipped) -> Counts
-    ensures { λ r. ⌜ r ≡ countsFrom (countsSoFar shown types codes bad (skippedOf first)) ⌝ }
+// The first record skipped, where `skipped` records were and record `first` is the first of them.
+fn first_of(bytes: &[u8], skipped: usize, first: usize) -> FirstSkipped
+    requires { ⌜ FirstWithin skipped first (length (now bytes)) ⌝ }
+    ensures { λ r. ⌜ skippedOf r ≡ firstAt (now (bytes .entry)) skipped first ⌝ }
 {
+    if skipped == 0 {
+        return FirstSkipped::None;
+    }
+    let e = records::record_at(bytes, 8 * first);
+    FirstSkipped::Event(e.kind, e.code)
+}
+
+// The number of the first record skipped, where record k is skipped too. A number and no event: what an event has would be kept in memory beside the loop's other numbers.
+fn earliest(skipped: usize, first: usize, k: usize) -> usize
+    ensures { λ r. ⌜ r ≡ firstAfter skipped first k ⌝ }
+{
+    if 0 < skipped {
+        return first;
+    }
+    k
+}
+
+fn counted(bytes: &[u8], shown: usize, types: usize, codes: usize, bad: usize, at: usize) -> Counts
+    requires { ⌜ (types + codes < 2 ^ 64) × FirstWithin (types + codes) at (length (now bytes)) ⌝ }
+    ensures { λ r. ⌜ r ≡ countsFrom (countsSoFar shown types codes bad (firstAt (now (bytes .entry)) (types + codes) at)) ⌝ }
+{
+    let first = first_of(bytes, types + codes, at);
     Counts {
         shown,
         types,
@@ -92,30 +116,30 @@ pub fn follow(
     let mut frames: usize = 0;
     let mut types: usize = 0;
     let mut codes: usize = 0;
-    let mut first = FirstSkipped::None;
+    let mut first: usize = 0;
     let mut k: usize = 0;
     while k < count {
         let e = records::record_at(bytes, 8 * k);
         let a = acts::act_of(setup, e);
         match a {
-            Act::UnknownType(t, c) => {
-                first = common::earlier(first, t, c);
+            Act::UnknownType(_, _) => {
+                first = earliest(types + codes, first, k);
                 types += 1;
                 k += 1;
             }
-            Act::UnknownCode(t, c) => {
-                first = common::earlier(first, t, c);
+            Act::UnknownCode(_, _) => {
+                first = earliest(types + codes, first, k);
                 codes += 1;
                 k += 1;
             }
             Act::Bad => {
-                let c = counted(frames, types, codes, 1, first);
+                let c = counted(bytes, frames, types, codes, 1, first);
                 return lost(shown, SlotNumber(current), Mode::Dropped, bytes, k + 1, c);
             }
             Act::Report => {
                 if written {
                     if !panel::ids_differ(setup.n, pending) {
-                        let c = counted(frames, types, codes, 1, first);
+                        let c = counted(bytes, frames, types, codes, 1, first);
                         return lost(shown, SlotNumber(current), Mode::Stale, bytes, k + 1, c);
                     }
                     written = false;
@@ -125,7 +149,7 @@ pub fn follow(
                 k += 1;
             }
             Act::Loss => {
-                let c = counted(frames, types, codes, 0, first);
+                let c = counted(bytes, frames, types, codes, 0, first);
                 return lost(shown, SlotNumber(current), Mode::Dropped, bytes, k + 1, c);
             }
             Act::Select(s) => {
@@ -162,6 +186,6 @@ pub fn follow(
         pending,
         current: SlotNumber(current),
         mode: Mode::Following,
-        counts: counted(frames, types, codes, 0, first),
+        counts: counted(bytes, frames, types, codes, 0, first),
     }
 }
