@@ -1,6 +1,6 @@
 -- The promise of `act_of` leaves no choice: the law is of the contract itself. What is seen of an act and held again is the act. Assumes nothing.
 use mathlib.Core.Path.{_≡_, refl, sym, ap, _∙_}
-use Prim.Native.Nat.{zero, suc}
+use Prim.Native.Nat.{ℕ, zero, suc}
 use lib.IntN.{natAbs}
 use Rattle.model.specs.Events as E
 use Rattle.model.specs.Unique.{OneAnswer}
@@ -10,8 +10,8 @@ use Rattle.acts.specs.Seen.{actOf}
 use Rattle.acts.proofs.act_of.Reads as act-of
 
 abbrev actFrom : E.Act → Act
-actFrom (E.skip E.ofType t c) = UnknownType t c
-actFrom (E.skip E.ofCode t c) = UnknownCode t c
+actFrom (E.skip E.ofType t c) = UnknownType
+actFrom (E.skip E.ofCode t c) = UnknownCode
 actFrom E.bad = Bad
 actFrom E.report = Report
 actFrom E.loss = Loss
@@ -21,17 +21,17 @@ actFrom (E.number (suc zero) v) = X (natAbs v)
 actFrom (E.number (suc (suc zero)) v) = Y (natAbs v)
 actFrom (E.number (suc (suc (suc i))) v) = Pressure (natAbs v)
 
-act-back : (a : Act) → actFrom (actOf a) ≡ a
-act-back (UnknownType t c) = refl
-act-back (UnknownCode t c) = refl
-act-back Bad = refl
-act-back Report = refl
-act-back Loss = refl
-act-back (Select k) = refl
-act-back (Id v) = refl
-act-back (X v) = refl
-act-back (Y v) = refl
-act-back (Pressure v) = refl
+act-back : (t c : ℕ) (a : Act) → actFrom (actOf t c a) ≡ a
+act-back t c UnknownType = refl
+act-back t c UnknownCode = refl
+act-back t c Bad = refl
+act-back t c Report = refl
+act-back t c Loss = refl
+act-back t c (Select k) = refl
+act-back t c (Id v) = refl
+act-back t c (X v) = refl
+act-back t c (Y v) = refl
+act-back t c (Pressure v) = refl
 
 pub act-of-one : OneAnswer act-of.Learnt
-act-of-one κs a r q s t e g = sym (act-back r) ∙ ap actFrom (e ∙ sym g) ∙ act-back q
+act-of-one κs a r q s t e g = sym (act-back _ _ r) ∙ ap actFrom (e ∙ sym g) ∙ act-back _ _ q

@@ -2,7 +2,7 @@
 ghost use mathlib.Core.Path.{_≡_};
 ghost use mathlib.Core.Bool.{true, cond};
 ghost use Prim.Native.Nat.{_≤_};
-ghost use Rattle.model.specs.Panel.{base, setupGood, idField, records};
+ghost use Rattle.model.specs.Panel.{base, setupGood, idField, records, slotCode};
 ghost use Rattle.model.specs.Table.{fits};
 ghost use Rattle.model.specs.Events.{bad, number, slotAct, synAct, absAct, classify};
 ghost use Rattle.model.specs.Records.{signedOf};
@@ -10,10 +10,10 @@ ghost use Rattle.panel.specs.Seen.{setupOf, panelSeen};
 ghost use Rattle.records.specs.Seen.{eventOf};
 ghost use Rattle.acts.specs.Seen.{actOf};
 
-// An unknown record comes with its type and code. A good number comes as what is stored: a slot number, an id, or an unsigned number.
+// A record that is unknown says only why: its type and code are at hand, and numbers beside those of the other acts cost the reader's loop dear. A good number comes as what is stored: a slot number, an id, or an unsigned number.
 pub enum Act {
-    UnknownType(u16, u16),
-    UnknownCode(u16, u16),
+    UnknownType,
+    UnknownCode,
     Bad,
     Report,
     Loss,
@@ -28,7 +28,7 @@ pub enum Act {
 const UNUSED: u32 = 0xffff_ffff;
 
 fn syn_act(code: u16) -> Act
-    ensures { λ r. ⌜ actOf r ≡ synAct code ⌝ }
+    ensures { λ r. ⌜ actOf 0 code r ≡ synAct code ⌝ }
 {
     if code == records::REPORT {
         return Act::Report;
@@ -36,13 +36,13 @@ fn syn_act(code: u16) -> Act
     if code == records::DROPPED {
         return Act::Loss;
     }
-    Act::UnknownCode(records::SYN, code)
+    Act::UnknownCode
 }
 
 // A negative value has the bits of a number far above every n, so one comparison judges it.
 fn slot_act(n: usize, value: u32) -> Act
     requires { ⌜ n ≤ records ⌝ }
-    ensures { λ r. ⌜ actOf r ≡ slotAct n (signedOf value) ⌝ }
+    ensures { λ r. ⌜ actOf 3 slotCode r ≡ slotAct n (signedOf value) ⌝ }
 {
     let k = value as usize;
     if k < n {
@@ -52,7 +52,7 @@ fn slot_act(n: usize, value: u32) -> Act
 }
 
 fn id_act(value: u32) -> Act
-    ensures { λ r. ⌜ actOf r ≡ cond (fits idField (signedOf value)) (number 0 (signedOf value)) bad ⌝ }
+    ensures { λ r. ⌜ actOf 3 (idField .code) r ≡ cond (fits idField (signedOf value)) (number 0 (signedOf value)) bad ⌝ }
 {
     if value == UNUSED {
         return Act::Id(common::TrackingId(common::TrackingId::UNUSED));
@@ -66,7 +66,7 @@ fn id_act(value: u32) -> Act
 
 fn abs_act(setup: panel::Setup, code: u16, value: u32) -> Act
     requires { ⌜ setupGood base (setupOf setup) ≡ true ⌝ }
-    ensures { λ r. ⌜ actOf r ≡ absAct (panelSeen setup) code (signedOf value) ⌝ }
+    ensures { λ r. ⌜ actOf 3 code r ≡ absAct (panelSeen setup) code (signedOf value) ⌝ }
 {
     if code == records::SLOT {
         return slot_act(setup.n, value);
@@ -92,13 +92,13 @@ fn abs_act(setup: panel::Setup, code: u16, value: u32) -> Act
         }
         return Act::Bad;
     }
-    Act::UnknownCode(records::ABS, code)
+    Act::UnknownCode
 }
 
 // What a record asks of a reader of this setup.
 pub fn act_of(setup: panel::Setup, e: records::Event) -> Act
     requires { ⌜ setupGood base (setupOf setup) ≡ true ⌝ }
-    ensures { λ r. ⌜ actOf r ≡ classify (panelSeen setup) (eventOf e) ⌝ }
+    ensures { λ r. ⌜ actOf (e .kind) (e .code) r ≡ classify (panelSeen setup) (eventOf e) ⌝ }
 {
     let kind = e.kind;
     if kind == records::SYN {
@@ -107,5 +107,5 @@ pub fn act_of(setup: panel::Setup, e: records::Event) -> Act
     if kind == records::ABS {
         return abs_act(setup, e.code, e.value);
     }
-    Act::UnknownType(kind, e.code)
+    Act::UnknownType
 }

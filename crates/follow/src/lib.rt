@@ -122,12 +122,12 @@ pub fn follow(
         let e = records::record_at(bytes, 8 * k);
         let a = acts::act_of(setup, e);
         match a {
-            Act::UnknownType(_, _) => {
+            Act::UnknownType => {
                 first = earliest(types + codes, first, k);
                 types += 1;
                 k += 1;
             }
-            Act::UnknownCode(_, _) => {
+            Act::UnknownCode => {
                 first = earliest(types + codes, first, k);
                 codes += 1;
                 k += 1;

@@ -26,7 +26,7 @@ pub record Unlisted (e : Event) (t c : ℕ) : Type 0 where
   pub type : e .type ≡ t
   pub code : e .code ≡ c
 
-abbrev pub Told : Panel → Event → Act → Type 0
+abbrev Told : Panel → Event → Act → Type 0
 Told p e (skip ofType t c) = (knownType e ≡ false) × Unlisted e t c
 Told p e (skip ofCode t c) = (knownType e ≡ true) × (knownCode p e ≡ false) × Unlisted e t c
 Told p e bad = Listed p e

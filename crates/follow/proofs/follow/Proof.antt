@@ -1,7 +1,7 @@
 -- `follow::follow`: a run that begins following. The loop has read k records; what is left of the run is the whole run's answer. Assumes nothing.
 use borrow.Author.Needs.{needs}
 use borrow.Author.Tests.{not-true, not-false}
-use mathlib.Core.Path.{_≡_, refl, sym, ap, _∙_, subst}
+use mathlib.Core.Path.{_≡_, refl, sym, ap, ap₂, _∙_}
 use mathlib.Core.Bool.{Bool, true}
 use mathlib.Core.List.{List}
 use mathlib.Core.Logic.{⊎-elim}
@@ -11,11 +11,11 @@ use lib.IntN.{pos}
 use lib.ListN.{length, getD}
 use Rattle.model.specs.Panel.{records}
 use Rattle.model.specs.Table.{idsDiffer}
+use Rattle.model.specs.Events as E
 use Rattle.model.specs.Events.{Event, classify}
 use Rattle.model.specs.Reader as R
 use Rattle.model.specs.Reader.{following, nothing}
 use Rattle.model.specs.Records.{eventAt, eventsFrom}
-use Rattle.model.proofs.Skips.{Told, told}
 use Rattle.common.specs.declared.Counts.{Counts}
 use Rattle.common.specs.Seen.{countsOf, countsFrom}
 use Rattle.common.proofs.Back.{counts-seen}
@@ -23,6 +23,7 @@ use Rattle.panel.specs.declared.Setup.{Setup}
 use Rattle.panel.specs.declared.Slot.{Slot}
 use Rattle.panel.specs.Seen.{tableOf, panelSeen, blank}
 use Rattle.panel.proofs.Setups.{small}
+use Rattle.acts.specs.declared.Act.{Act}
 use Rattle.acts.specs.Seen.{actOf}
 use Rattle.follow.specs.declared.Ended.{Ended}
 use Rattle.follow.specs.Seen.{readerOf}
@@ -90,8 +91,18 @@ here p =
 held : (p : tie.After-act-of Inv-loop μ-loop) → top p .loop .current < length (top p .loop .pending)
 held p = let inv = top p .loop .inv in omega (arith, inv .below, inv .slots, inv .pends .full)
 
-asked : (p : tie.After-act-of Inv-loop μ-loop) → asks (here p) ≡ actOf (p .act-of .result)
-asked p = sym (p .act-of .ensures ∙ ap (classify (panelSeen (setup p))) (p .before .record-at .ensures))
+-- The record that this turn reads.
+abbrev read : tie.After-act-of Inv-loop μ-loop → Event
+read p = eventAt (bytes p) (8 * top p .loop .k)
+
+-- An act, as what this turn's record asks.
+abbrev act : tie.After-act-of Inv-loop μ-loop → Act → E.Act
+act p a = actOf (read p .type) (read p .code) a
+
+asked : (p : tie.After-act-of Inv-loop μ-loop) → asks (here p) ≡ act p (p .act-of .result)
+asked p =
+    let e = p .before .record-at .ensures in
+    sym (ap₂ (λ (x y : Event). actOf (x .type) (y .code) (p .act-of .result)) (sym e) (sym e) ∙ p .act-of .ensures ∙ ap (classify (panelSeen (setup p))) e)
 
 -- The call's end, where track is lost.
 abbrev lostWith : (p : tie.After-act-of Inv-loop μ-loop) → R.Mode → R.Counts → Ended
@@ -162,14 +173,12 @@ loop-again : tie.Need-loop-again Inv-loop μ-loop
 loop-again c =
     let p = c .before .before .before in
     let l = top p .loop in
-    let v = c .before .enum-told .given .0 in
-    let e = asked p ∙ ap actOf (c .before .enum-told .given .1) in
-    let it = subst (Told (panelSeen (setup p)) (eventAt (bytes p) (8 * l .k))) e (told (panelSeen (setup p)) (eventAt (bytes p) (8 * l .k))) .1 in
+    let e = asked p ∙ ap (act p) (c .before .enum-told .given .1) in
     let n = l .types + l .codes in
     let more : suc n ≡ l .types + 1 + (l .codes) = omega arith in
-    let name = names (bytes p) n _ (l .first) _ (l .k) more (c .earliest .ensures) (v .0) (v .1 .0) (it .type) (it .code) in
+    let name = names (bytes p) n _ (l .first) _ (l .k) more (c .earliest .ensures) (read p .type) (read p .code) refl refl in
     let left =
-    l .inv .left ∙ skips-type (here p) (v .0) (v .1 .0) e
+    l .inv .left ∙ skips-type (here p) (read p .type) (read p .code) e
     ∙ ap (λ f. onward (panelSeen (setup p)) (readerOf (l .shown) (l .pending) (l .current) following) (sofar (l .frames) (l .types + 1) (l .codes) f) (after p)) name in
     record {
       inside = search needs;
@@ -203,14 +212,12 @@ loop-again-2 : tie.Need-loop-again-2 Inv-loop μ-loop
 loop-again-2 c =
     let p = c .before .before .before in
     let l = top p .loop in
-    let v = c .before .enum-told2 .given .0 in
-    let e = asked p ∙ ap actOf (c .before .enum-told2 .given .1) in
-    let it = subst (Told (panelSeen (setup p)) (eventAt (bytes p) (8 * l .k))) e (told (panelSeen (setup p)) (eventAt (bytes p) (8 * l .k))) .2 in
+    let e = asked p ∙ ap (act p) (c .before .enum-told2 .given .1) in
     let n = l .types + l .codes in
     let more : suc n ≡ l .types + (l .codes + 1) = omega arith in
-    let name = names (bytes p) n _ (l .first) _ (l .k) more (c .earliest2 .ensures) (v .0) (v .1 .0) (it .type) (it .code) in
+    let name = names (bytes p) n _ (l .first) _ (l .k) more (c .earliest2 .ensures) (read p .type) (read p .code) refl refl in
     let left =
-    l .inv .left ∙ skips-code (here p) (v .0) (v .1 .0) e
+    l .inv .left ∙ skips-code (here p) (read p .type) (read p .code) e
     ∙ ap (λ f. onward (panelSeen (setup p)) (readerOf (l .shown) (l .pending) (l .current) following) (sofar (l .frames) (l .types) (l .codes + 1) f) (after p)) name in
     record {
       inside = search needs;
@@ -238,7 +245,7 @@ returns : tie.Need-returns Inv-loop μ-loop
 returns c =
     let p = c .before .before .before .before in
     let l = top p .loop in
-    let told = asked p ∙ ap actOf (c .before .before .enum-told3 .given .1) in
+    let told = asked p ∙ ap (act p) (c .before .before .enum-told3 .given .1) in
     c .lost .ensures
     ∙ tells p R.dropped _ (withBad p 1) (c .before .counted .ensures)
     ∙ loses (here p) R.dropped 1 tt (spoils (here p) told)
@@ -267,7 +274,7 @@ returns-2 c =
     let p = i .before .before .before .before in
     let equal = sym (i .ids-differ .ensures) ∙ not-true (i .ids-differ .result) (c .before .before .if2 .taken) in
     let l = top p .loop in
-    let told = asked p ∙ ap actOf (i .before .before .enum-told4 .given .1) in
+    let told = asked p ∙ ap (act p) (i .before .before .enum-told4 .given .1) in
     c .lost2 .ensures
     ∙ tells p R.stale _ (withBad p 1) (c .before .counted2 .ensures)
     ∙ loses (here p) R.stale 1 tt (repeats (here p) told equal)
@@ -288,7 +295,7 @@ loop-again-3 c =
     let l = top p .loop in
     let differ : idsDiffer (tableOf (l .pending)) ≡ true =
     ⊎-elim (λ w. sym (w .1 .ensures) ∙ not-false (w .1 .result) (w .2 .left)) (λ w. l .inv .pends .apart (w .0 .left)) (c .if1 .came) in
-    let told = asked p ∙ ap actOf (c .before .enum-told4 .given .1) in
+    let told = asked p ∙ ap (act p) (c .before .enum-told4 .given .1) in
     let left = l .inv .left ∙ shows (here p) told differ in
     let table = compared (setup p .n) (l .written) (c .if1 .written) (l .pending) (l .inv .pends) differ in
     record { inside = search needs; below = l .inv .below; few = search needs; pends = table; left = left; slots = l .inv .slots; there = l .inv .there }
@@ -309,7 +316,7 @@ returns-3 : tie.Need-returns-3 Inv-loop μ-loop
 returns-3 c =
     let p = c .before .before .before .before in
     let l = top p .loop in
-    let told = asked p ∙ ap actOf (c .before .before .enum-told5 .given .1) in
+    let told = asked p ∙ ap (act p) (c .before .before .enum-told5 .given .1) in
     c .lost3 .ensures
     ∙ tells p R.dropped _ (withBad p 0) (c .before .counted3 .ensures)
     ∙ loses (here p) R.dropped 0 tt (drops (here p) told)
@@ -329,7 +336,7 @@ loop-again-4 c =
     let p = c .before .before .before in
     let l = top p .loop in
     let j = c .before .a .given .0 .0 .0 in
-    let e = asked p ∙ ap actOf (c .before .a .given .1) in
+    let e = asked p ∙ ap (act p) (c .before .a .given .1) in
     let left = l .inv .left ∙ selects (here p) j e in
     record { inside = search needs; below = selected (setup p) (eventAt (bytes p) (8 * l .k)) j e; few = search needs; pends = l .inv .pends; left = left; slots = l .inv .slots; there = l .inv .there }
 
@@ -361,7 +368,7 @@ loop-again-5 c =
     let v = c .before .before .a2 .given .0 .0 in
     let o = getD (l .pending) (l .current) blank in
     let x : Slot = record { id = v; x = o .x; y = o .y; pressure = o .pressure } in
-    let e = asked p ∙ ap actOf (c .before .before .a2 .given .1) in
+    let e = asked p ∙ ap (act p) (c .before .before .a2 .given .1) in
     let left = l .inv .left ∙ stores (here p) 0 (v .0) x e (held p) refl in
     record { inside = search needs; below = l .inv .below; few = search needs; pends = with-id (setup p .n) (l .written) (l .pending) (l .inv .pends) (l .current) x (l .inv .below); left = left; slots = l .inv .slots; there = l .inv .there }
 
@@ -387,7 +394,7 @@ loop-again-6 c =
     let v = c .before .before .a3 .given .0 .0 in
     let o = getD (l .pending) (l .current) blank in
     let x : Slot = record { id = o .id; x = v; y = o .y; pressure = o .pressure } in
-    let e = asked p ∙ ap actOf (c .before .before .a3 .given .1) in
+    let e = asked p ∙ ap (act p) (c .before .before .a3 .given .1) in
     let left = l .inv .left ∙ stores (here p) 1 (pos v) x e (held p) refl in
     let table = with-number (setup p .n) (l .written) (l .pending) (l .inv .pends) (l .current) x (l .inv .below) refl in
     record { inside = search needs; below = l .inv .below; few = search needs; pends = table; left = left; slots = l .inv .slots; there = l .inv .there }
@@ -414,7 +421,7 @@ loop-again-7 c =
     let v = c .before .before .a4 .given .0 .0 in
     let o = getD (l .pending) (l .current) blank in
     let x : Slot = record { id = o .id; x = o .x; y = v; pressure = o .pressure } in
-    let e = asked p ∙ ap actOf (c .before .before .a4 .given .1) in
+    let e = asked p ∙ ap (act p) (c .before .before .a4 .given .1) in
     let left = l .inv .left ∙ stores (here p) 2 (pos v) x e (held p) refl in
     let table = with-number (setup p .n) (l .written) (l .pending) (l .inv .pends) (l .current) x (l .inv .below) refl in
     record { inside = search needs; below = l .inv .below; few = search needs; pends = table; left = left; slots = l .inv .slots; there = l .inv .there }
@@ -441,7 +448,7 @@ loop-again-8 c =
     let v = c .before .before .a5 .given .0 .0 in
     let o = getD (l .pending) (l .current) blank in
     let x : Slot = record { id = o .id; x = o .x; y = o .y; pressure = v } in
-    let e = asked p ∙ ap actOf (c .before .before .a5 .given .1) in
+    let e = asked p ∙ ap (act p) (c .before .before .a5 .given .1) in
     let left = l .inv .left ∙ stores (here p) 3 (pos v) x e (held p) refl in
     let table = with-number (setup p .n) (l .written) (l .pending) (l .inv .pends) (l .current) x (l .inv .below) refl in
     record { inside = search needs; below = l .inv .below; few = search needs; pends = table; left = left; slots = l .inv .slots; there = l .inv .there }
