@@ -11,7 +11,7 @@ use Rattle.model.specs.Panel.{Field, Panel, slotCode}
 use Rattle.model.specs.Table.{Table, fits}
 use Rattle.model.specs.Events.{Event, Act, skip, bad, report, loss, slot, number, later, numberAct, slotAct, synAct, absAct, classify}
 use Rattle.model.specs.Records.{eventAt, eventsFrom}
-use Rattle.model.specs.Reader.{Mode, following, dropped, stale, Lost, Reader, settledAt, step, read, Counts, nothing, ignoring, plus, tally, tallies, run as runOver}
+use Rattle.model.specs.Reader.{Mode, following, dropped, stale, Lost, Reader, settledAt, step, read, Counts, nothing, ignoring, plus, countIn, countAll, run as runOver}
 use Rattle.model.proofs.Counts.{plus-assoc, plus-none, none-plus}
 use Rattle.follow.specs.Runs.{onward, endingAt}
 use Rattle.common.specs.Lost.{heard, onLost, lastMode}
@@ -19,16 +19,16 @@ use Rattle.common.proofs.Lost.{hears, still-lost}
 
 pub onward-start : (p : Panel) (r : Reader) (es : List Event) → onward p r nothing es ≡ runOver p r es
 unfolding onward runOver
-onward-start p r es = ap (endingAt (read p r es)) (none-plus (tallies r (map (classify p) es)))
+onward-start p r es = ap (endingAt (read p r es)) (none-plus (countAll r (map (classify p) es)))
 
 onward-cons : (p : Panel) (r : Reader) (a : Counts) (e : Event) (es : List Event)
-    → onward p r a (e ∷ es) ≡ onward p (step r (classify p e)) (plus a (tally (r .mode) r (classify p e))) es
+    → onward p r a (e ∷ es) ≡ onward p (step r (classify p e)) (plus a (countIn (r .mode) r (classify p e))) es
 unfolding onward
 onward-cons p r a e es =
-    ap (endingAt (read p (step r (classify p e)) es)) (sym (plus-assoc a (tally (r .mode) r (classify p e)) (tallies (step r (classify p e)) (map (classify p) es))))
+    ap (endingAt (read p (step r (classify p e)) es)) (sym (plus-assoc a (countIn (r .mode) r (classify p e)) (countAll (step r (classify p e)) (map (classify p) es))))
 
 pub onward-next : (p : Panel) (r : Reader) (a : Counts) (s : List ℕ) (n k : ℕ) → k < n
-    → onward p r a (eventsFrom (n - k) s (8 * k)) ≡ onward p (step r (classify p (eventAt s (8 * k)))) (plus a (tally (r .mode) r (classify p (eventAt s (8 * k))))) (eventsFrom (n - (k + 1)) s (8 * (k + 1)))
+    → onward p r a (eventsFrom (n - k) s (8 * k)) ≡ onward p (step r (classify p (eventAt s (8 * k)))) (plus a (countIn (r .mode) r (classify p (eventAt s (8 * k))))) (eventsFrom (n - (k + 1)) s (8 * (k + 1)))
 unfolding eventsFrom
 onward-next p r a s n k l =
     let m : n - k ≡ suc (n - (k + 1)) = omega arith in
@@ -59,10 +59,10 @@ lost-act t c stale loss l = refl
 lost-act t c stale (slot k) l = refl
 lost-act t c stale (number i v) l = refl
 
-lost-tally : (r : Reader) (m : Mode) (x : Act) → Lost m → tally m r x ≡ (ignoring 1)
-lost-tally r following x l = absurd l
-lost-tally r dropped x l = refl
-lost-tally r stale x l = refl
+lost-count : (r : Reader) (m : Mode) (x : Act) → Lost m → countIn m r x ≡ (ignoring 1)
+lost-count r following x l = absurd l
+lost-count r dropped x l = refl
+lost-count r stale x l = refl
 
 one-more : (a : Counts) (n : ℕ) → plus (plus a (ignoring 1)) (ignoring n) ≡ plus a (ignoring (suc n))
 one-more a n = let p : suc n ≡ 1 + n = omega arith in rw p (plus-assoc a (ignoring 1) (ignoring n))
@@ -74,6 +74,6 @@ unfolding lastMode onward
 lost-onward p t c m a [] l = refl
 lost-onward p t c m a (e ∷ es) l =
     onward-cons p (settledAt t c m) a e es
-    ∙ ap₂ (λ r b. onward p r (plus a b) es) (lost-act t c m (classify p e) l ∙ ap (settledAt t c) (hears p e m)) (lost-tally (settledAt t c m) m (classify p e) l)
+    ∙ ap₂ (λ r b. onward p r (plus a b) es) (lost-act t c m (classify p e) l ∙ ap (settledAt t c) (hears p e m)) (lost-count (settledAt t c m) m (classify p e) l)
     ∙ lost-onward p t c (onLost m (heard e)) (plus a (ignoring 1)) es (still-lost m (heard e) l)
     ∙ ap (endingAt (settledAt t c (lastMode (onLost m (heard e)) es))) (one-more a (length es))

@@ -127,10 +127,10 @@ module _ (w : Place) where
   abbrev Goes : R.Reader → R.Counts → Type 0
   Goes r t = onward (panelSeen (w .setup)) before so (from (w .k)) ≡ onward (panelSeen (w .setup)) r t (from (w .k + 1))
 
-  turn : (x : E.Act) → asks ≡ x → Goes (R.stepFollowing before x) (R.plus so (R.tallyFollowing before x))
+  turn : (x : E.Act) → asks ≡ x → Goes (R.stepFollowing before x) (R.plus so (R.countFollowing before x))
   turn x e =
       onward-next (panelSeen (w .setup)) before so (w .bytes) (w .count) (w .k) (w .inside)
-      ∙ ap (λ y. onward (panelSeen (w .setup)) (R.stepFollowing before y) (R.plus so (R.tallyFollowing before y)) (from (w .k + 1))) e
+      ∙ ap (λ y. onward (panelSeen (w .setup)) (R.stepFollowing before y) (R.plus so (R.countFollowing before y)) (from (w .k + 1))) e
 
   with-counts : (r : R.Reader) (t v : R.Counts) → Goes r t → t ≡ v → Goes r v
   with-counts r t v p e = p ∙ ap (λ z. onward (panelSeen (w .setup)) r z (from (w .k + 1))) e

@@ -5,7 +5,7 @@ use lib.ListN.{length}
 use Rattle.model.specs.Panel.{Panel}
 use Rattle.model.specs.Events.{Event, classify}
 use Rattle.model.specs.Records.{eventAt}
-use Rattle.model.specs.Reader.{Mode, Reader, read, Skipped, none, event, Counts, plus, tallies, Run}
+use Rattle.model.specs.Reader.{Mode, Reader, read, Skipped, none, event, Counts, plus, countAll, Run}
 use Rattle.common.specs.declared.SlotNumber.{SlotNumber}
 use Rattle.common.specs.Seen.{modeFrom, skippedFrom, countsFrom}
 use Rattle.common.specs.Lost.{lastMode}
@@ -15,7 +15,7 @@ use Rattle.follow.specs.declared.Ended.{Ended}
 
 -- What is left of a run, where `a` is counted already.
 unfoldable pub onward : Panel → Reader → Counts → List Event → Run
-onward p r a es = record { reader = read p r es; counts = plus a (tallies r (map (classify p) es)) }
+onward p r a es = record { reader = read p r es; counts = plus a (countAll r (map (classify p) es)) }
 
 -- Four counts and the first event skipped, and none ignored.
 abbrev pub counted : ℕ → ℕ → ℕ → ℕ → Skipped → Counts

@@ -10,7 +10,7 @@ use Rattle.model.proofs.Counts.{plus-assoc, none-plus}
 use Rattle.model.specs.Panel.{Panel}
 use Rattle.model.specs.Events.{Event, Act, classify}
 use Rattle.model.specs.Records.{eventAt, eventsFrom, eventsOf}
-use Rattle.model.specs.Reader.{Reader, step, steps, read, plus, tally, tallies, run}
+use Rattle.model.specs.Reader.{Reader, step, steps, read, plus, countIn, countAll, run}
 
 -- ---- events
 
@@ -20,11 +20,11 @@ steps-append r [] ys = refl
 steps-append r (x ∷ xs) ys = steps-append (step r x) xs ys
 
 -- Their counts add up.
-pub tallies-append : (r : Reader) (xs ys : List Act) → tallies r (xs ++ ys) ≡ plus (tallies r xs) (tallies (steps r xs) ys)
-tallies-append r [] ys = sym (none-plus (tallies r ys))
-tallies-append r (x ∷ xs) ys =
-    ap (plus (tally (r .mode) r x)) (tallies-append (step r x) xs ys)
-    ∙ sym (plus-assoc (tally (r .mode) r x) (tallies (step r x) xs) (tallies (steps (step r x) xs) ys))
+pub counts-append : (r : Reader) (xs ys : List Act) → countAll r (xs ++ ys) ≡ plus (countAll r xs) (countAll (steps r xs) ys)
+counts-append r [] ys = sym (none-plus (countAll r ys))
+counts-append r (x ∷ xs) ys =
+    ap (plus (countIn (r .mode) r x)) (counts-append (step r x) xs ys)
+    ∙ sym (plus-assoc (countIn (r .mode) r x) (countAll (step r x) xs) (countAll (steps (step r x) xs) ys))
 
 -- The reader after events and then more is the reader after the later ones, from where the earlier left it.
 pub read-append : (p : Panel) (r : Reader) (xs ys : List Event) → read p r (xs ++ ys) ≡ read p (read p r xs) ys
@@ -36,7 +36,7 @@ pub run-append : (p : Panel) (r : Reader) (xs ys : List Event)
 unfolding run
 run-append p r xs ys =
     ap₂ (λ a c. record { reader = a; counts = c }) (read-append p r xs ys)
-    (ap (tallies r) (map-append (classify p) xs ys) ∙ tallies-append r (map (classify p) xs) (map (classify p) ys))
+    (ap (countAll r) (map-append (classify p) xs ys) ∙ counts-append r (map (classify p) xs) (map (classify p) ys))
 
 -- ---- bytes
 

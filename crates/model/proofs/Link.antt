@@ -15,7 +15,7 @@ use Rattle.model.proofs.Count.{changedNumbers-self}
 use Rattle.model.proofs.Least.{least}
 use Rattle.model.proofs.Bytes.{bytes-length, events-length, decoded, laid-part, frame-carried}
 use Rattle.model.proofs.Layouts.{panel-tellable}
-use Rattle.model.proofs.Shows.{sending-tallies}
+use Rattle.model.proofs.Shows.{sending-counts}
 use Rattle.model.proofs.Calls.{writer-state, state-reader, after-steady, write-accepted, frame-reads-back, frame-count, accepted-is}
 use Rattle.model.proofs.Answers.{run-whole}
 use Rattle.model.specs.Panel.{Layout, panelOf, goodLayout, fieldCodes}
@@ -24,7 +24,7 @@ use Rattle.model.specs.Events.{classify}
 use Rattle.model.specs.Records.{bytesOf, eventsOf, lay}
 use Rattle.model.specs.Frame.{valuesGood}
 use Rattle.model.specs.Sending.{eventOf, sending, fewest}
-use Rattle.model.specs.Reader.{following, follow, nothing, oneShown, tallies, run as runOver}
+use Rattle.model.specs.Reader.{following, follow, nothing, oneShown, countAll, run as runOver}
 use Rattle.model.specs.States.{WriterState, writerGood, readerGood}
 use Rattle.model.specs.Calls.{isAccepted, accepted, frameEvents, writerAfter, needOf, writeVerdict, Written, notWritten, taken, writeCall, writeBuffer, ran, notRun, runVerdict, runCall}
 use Rattle.model.specs.Bench.{pupil}
@@ -77,7 +77,7 @@ module _ (l : Layout) (s : WriterState) (f : List ℤ) (at : ℕ) (buf : List �
       let w = writer-state l s good in
       state-reader l (pupil s) (record { setup = w .setup; reader = record { shows = w .writer .good; pends = w .writer .good; differs = w .writer .differs; below = w .writer .below; settles = tt } })
 
-  counts-are : tallies (follow (s .writer .table) (s .writer .table) (s .writer .current)) (map (classify (panelOf l (s .setup))) (eventsOf (bytesOf (frameEvents (panelOf l (s .setup)) (s .writer) f))))
+  counts-are : countAll (follow (s .writer .table) (s .writer .table) (s .writer .current)) (map (classify (panelOf l (s .setup))) (eventsOf (bytesOf (frameEvents (panelOf l (s .setup)) (s .writer) f))))
       ≡ cond (eqb (length (frameEvents (panelOf l (s .setup)) (s .writer) f)) 0) nothing oneShown
   unfolding good values
   counts-are =
@@ -88,9 +88,9 @@ module _ (l : Layout) (s : WriterState) (f : List ℤ) (at : ℕ) (buf : List �
       let old = s .writer .table in
       let new = writerAfter p (s .writer) f .table in
       let c = s .writer .current in
-      ap (λ es. tallies (follow old old c) (map (classify p) es)) (decoded (frameEvents p (s .writer) f) (frame-carried p old new c tell (w .writer .good) (after .good)))
-      ∙ ap (tallies (follow old old c)) (all-back p (tells p tell) (sending c old new) (sending-good (p .fields) (p .slots) c old new (good-records p old (w .writer .good)) (good-records p new (after .good))))
-      ∙ sending-tallies old new c (alike p old new (w .writer .good) (after .good)) (after .differs)
+      ap (λ es. countAll (follow old old c) (map (classify p) es)) (decoded (frameEvents p (s .writer) f) (frame-carried p old new c tell (w .writer .good) (after .good)))
+      ∙ ap (countAll (follow old old c)) (all-back p (tells p tell) (sending c old new) (sending-good (p .fields) (p .slots) c old new (good-records p old (w .writer .good)) (good-records p new (after .good))))
+      ∙ sending-counts old new c (alike p old new (w .writer .good) (after .good)) (after .differs)
       ∙ ap (λ n. cond (eqb n 0) nothing oneShown) (sym (length-map (sending c old new) (eventOf (fieldCodes (p .fields)))))
 
   run-is : runOver (panelOf l (s .setup)) (follow (s .writer .table) (s .writer .table) (s .writer .current)) (eventsOf (bytesOf (frameEvents (panelOf l (s .setup)) (s .writer) f)))

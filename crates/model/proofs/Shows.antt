@@ -8,12 +8,12 @@ use lib.ListN.{length, getD, set}
 use Rattle.model.proofs.Bools.{is-true}
 use Rattle.model.proofs.Tables.{Alike}
 use Rattle.model.proofs.Counts.{none-plus}
-use Rattle.model.proofs.Cut.{tallies-append}
+use Rattle.model.proofs.Cut.{counts-append}
 use Rattle.model.proofs.Follow.{asks, heeds, heeds-body}
 use Rattle.model.specs.Numbers.{eqZ}
 use Rattle.model.specs.Table.{Slot, Table, idsDiffer}
 use Rattle.model.specs.Events.{report}
-use Rattle.model.specs.Reader.{follow, onSlot, nothing, oneShown, oneBad, plus, tallies}
+use Rattle.model.specs.Reader.{follow, onSlot, nothing, oneShown, oneBad, plus, countAll}
 use Rattle.model.specs.Sending.{Sent, sendSlot, sendNumber, sendReport, unless, changes, opened, allChanges, slotDone, otherChanges, body, closed, sending, lastOpened}
 
 -- ---- slots and numbers are not counted
@@ -54,24 +54,24 @@ quiet-body c old new =
     let now = changes 0 (getD old c []) (getD new c []) in
     quiet-append now (otherChanges c old new) (quiet-changes 0 (getD old c []) (getD new c [])) (quiet-all 0 (slotDone c old new) new)
 
-quiet-tallies : (s p : Table) (c : ℕ) (xs : List Sent) → Quiet xs → tallies (follow s p c) (map asks xs) ≡ nothing
-quiet-tallies s p c [] q = refl
-quiet-tallies s p c (sendSlot k ∷ xs) q = none-plus _ ∙ quiet-tallies s p k xs q
-quiet-tallies s p c (sendNumber i v ∷ xs) q = none-plus _ ∙ quiet-tallies s (onSlot p c (λ z. set z i v)) c xs q
-quiet-tallies s p c (sendReport ∷ xs) q = absurd q
+quiet-counts : (s p : Table) (c : ℕ) (xs : List Sent) → Quiet xs → countAll (follow s p c) (map asks xs) ≡ nothing
+quiet-counts s p c [] q = refl
+quiet-counts s p c (sendSlot k ∷ xs) q = none-plus _ ∙ quiet-counts s p k xs q
+quiet-counts s p c (sendNumber i v ∷ xs) q = none-plus _ ∙ quiet-counts s (onSlot p c (λ z. set z i v)) c xs q
+quiet-counts s p c (sendReport ∷ xs) q = absurd q
 
 -- ---- a frame
 
-closed-tallies : (old new : Table) (c : ℕ) (xs : List Sent) → T (idsDiffer new) → Quiet xs → heeds (follow old old c) xs ≡ follow old new (lastOpened c xs)
-    → tallies (follow old old c) (map asks (closed xs)) ≡ cond (eqb (length (closed xs)) 0) nothing oneShown
-closed-tallies old new c [] u q e = refl
-closed-tallies old new c (x ∷ xs) u q e =
-    ap (tallies (follow old old c)) (map-append asks (x ∷ xs) (sendReport ∷ []))
-    ∙ tallies-append (follow old old c) (map asks (x ∷ xs)) (report ∷ [])
-    ∙ ap₂ plus (quiet-tallies old old c (x ∷ xs) q) (ap (λ r. tallies r (report ∷ [])) e ∙ ap (λ b. plus (cond b oneShown oneBad) nothing) (is-true (idsDiffer new) u))
+closed-counts : (old new : Table) (c : ℕ) (xs : List Sent) → T (idsDiffer new) → Quiet xs → heeds (follow old old c) xs ≡ follow old new (lastOpened c xs)
+    → countAll (follow old old c) (map asks (closed xs)) ≡ cond (eqb (length (closed xs)) 0) nothing oneShown
+closed-counts old new c [] u q e = refl
+closed-counts old new c (x ∷ xs) u q e =
+    ap (countAll (follow old old c)) (map-append asks (x ∷ xs) (sendReport ∷ []))
+    ∙ counts-append (follow old old c) (map asks (x ∷ xs)) (report ∷ [])
+    ∙ ap₂ plus (quiet-counts old old c (x ∷ xs) q) (ap (λ r. countAll r (report ∷ [])) e ∙ ap (λ b. plus (cond b oneShown oneBad) nothing) (is-true (idsDiffer new) u))
     ∙ rw (eqb·suc-zero (length (xs ++ sendReport ∷ [])))
 
 -- A following reader that reads a frame counts one table shown, or nothing if nothing was sent.
-pub sending-tallies : (old new : Table) (c : ℕ) → Alike old new → T (idsDiffer new)
-    → tallies (follow old old c) (map asks (sending c old new)) ≡ cond (eqb (length (sending c old new)) 0) nothing oneShown
-sending-tallies old new c h u = closed-tallies old new c (body c old new) u (quiet-body c old new) (heeds-body old new c h)
+pub sending-counts : (old new : Table) (c : ℕ) → Alike old new → T (idsDiffer new)
+    → countAll (follow old old c) (map asks (sending c old new)) ≡ cond (eqb (length (sending c old new)) 0) nothing oneShown
+sending-counts old new c h u = closed-counts old new c (body c old new) u (quiet-body c old new) (heeds-body old new c h)

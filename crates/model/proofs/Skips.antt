@@ -12,7 +12,7 @@ use Rattle.model.specs.Panel.{Field, Panel, slotCode, unlisted, fieldCod
 use Rattle.model.specs.Table.{fits, idsDiffer}
 use Rattle.model.specs.Events.{Event, Act, skip, bad, report, loss, slot, number, Unknown, ofType, ofCode, later, numberAct, slotAct, synAct, absAct, classify}
 use Rattle.model.specs.Reader as R
-use Rattle.model.specs.Reader.{Mode, following, dropped, stale, Reader, step, steps, read, Skipped, event, earlier, Counts, nothing, oneShown, oneBad, plus, tally, tallies}
+use Rattle.model.specs.Reader.{Mode, following, dropped, stale, Reader, step, steps, read, Skipped, event, earlier, Counts, nothing, oneShown, oneBad, plus, countIn, countAll}
 use Rattle.model.specs.Skips.{knownType, knownCode, typeUnknown, codeUnknown, skippedBy, oneIf, met, FirstSkipped, SkipsTold, plain}
 
 -- ---- an event and what it asks
@@ -139,7 +139,7 @@ report-adds : (p : Panel) (e : Event) (b : Bool) → Listed p e → Adds p follo
 report-adds p e true l = quiet-adds p e oneShown l refl refl
 report-adds p e false l = quiet-adds p e oneBad l refl refl
 
-act-adds : (p : Panel) (r : Reader) (e : Event) (x : Act) → Told p e x → Adds p following e (R.tallyFollowing r x)
+act-adds : (p : Panel) (r : Reader) (e : Event) (x : Act) → Told p e x → Adds p following e (R.countFollowing r x)
 act-adds p r e (skip ofType t c) n =
     let k = n .0 in
     record { types = rw k; codes = rw k; either = rw k }
@@ -153,7 +153,7 @@ act-adds p r e loss n = quiet-adds p e nothing n refl refl
 act-adds p r e (slot k) n = quiet-adds p e nothing n refl refl
 act-adds p r e (number i v) n = quiet-adds p e nothing n refl refl
 
-mode-adds : (p : Panel) (m : Mode) (r : Reader) (e : Event) → Adds p m e (tally m r (classify p e))
+mode-adds : (p : Panel) (m : Mode) (r : Reader) (e : Event) → Adds p m e (countIn m r (classify p e))
 mode-adds p following r e = act-adds p r e (classify p e) (told p e)
 mode-adds p dropped r e = ignored-adds p dropped e tt
 mode-adds p stale r e = ignored-adds p stale e tt
@@ -162,7 +162,7 @@ mode-adds p stale r e = ignored-adds p stale e tt
 
 -- The counts of a run over events.
 abbrev pub countsOf : Panel → Reader → List Event → Counts
-countsOf p r es = tallies r (map (classify p) es)
+countsOf p r es = countAll r (map (classify p) es)
 
 -- The first count is of the events of an unknown type that find the reader following.
 types-are : (p : Panel) (r : Reader) (es : List Event) → countsOf p r es .types ≡ met p typeUnknown r es
@@ -178,7 +178,7 @@ codes-are p r (e ∷ es) = ap₂ (λ a b. a + b) (mode-adds p (r .mode) r e .cod
 together : (p : Panel) (r : Reader) (es : List Event) → countsOf p r es .types + countsOf p r es .codes ≡ met p (skippedBy p) r es
 together p r [] = refl
 together p r (e ∷ es) =
-    let a = tally (r .mode) r (classify p e) in
+    let a = countIn (r .mode) r (classify p e) in
     let b = countsOf p (step r (classify p e)) es in
     let swap : a .types + b .types + (a .codes + b .codes) ≡ a .types + a .codes + (b .types + b .codes) = omega arith in
     swap ∙ ap₂ (λ x y. x + y) (mode-adds p (r .mode) r e .either) (together p (step r (classify p e)) es)
@@ -200,7 +200,7 @@ report-named : (p : Panel) (e : Event) (b : Bool) → Listed p e → Named p fol
 report-named p e true l = quiet-named p e l
 report-named p e false l = quiet-named p e l
 
-act-named : (p : Panel) (r : Reader) (e : Event) (x : Act) → Told p e x → Named p following e (R.tallyFollowing r x .first)
+act-named : (p : Panel) (r : Reader) (e : Event) (x : Act) → Told p e x → Named p following e (R.countFollowing r x .first)
 act-named p r e (skip ofType t c) n = let k = n .0 in (refl, rw k, n .1)
 act-named p r e (skip ofCode t c) n = let k = n .0 in let d = n .1 in (refl, rw (k, d), n .2)
 act-named p r e bad n = quiet-named p e n
@@ -209,7 +209,7 @@ act-named p r e loss n = quiet-named p e n
 act-named p r e (slot k) n = quiet-named p e n
 act-named p r e (number i v) n = quiet-named p e n
 
-mode-named : (p : Panel) (m : Mode) (r : Reader) (e : Event) → Named p m e (tally m r (classify p e) .first)
+mode-named : (p : Panel) (m : Mode) (r : Reader) (e : Event) → Named p m e (countIn m r (classify p e) .first)
 mode-named p following r e = act-named p r e (classify p e) (told p e)
 mode-named p dropped r e = refl
 mode-named p stale r e = refl
@@ -230,7 +230,7 @@ isEvent (event t c) = true
 first-is : (p : Panel) (r : Reader) (es : List Event) (t c : ℕ) → countsOf p r es .first ≡ event t c → FirstSkipped p r es t c
 first-is p r [] t c q = absurd (false≢true (ap isEvent q))
 first-is p r (e ∷ es) t c q =
-    go (tally (r .mode) r (classify p e) .first) (first-is p (step r (classify p e)) es t c) (mode-named p (r .mode) r e) q
+    go (countIn (r .mode) r (classify p e) .first) (first-is p (step r (classify p e)) es t c) (mode-named p (r .mode) r e) q
   where
     go : (f : Skipped) → (countsOf p (step r (classify p e)) es .first ≡ event t c → FirstSkipped p (step r (classify p e)) es t c) → Named p (r .mode) e f
         → earlier f (countsOf p (step r (classify p e)) es .first) ≡ event t c → FirstSkipped p r (e ∷ es) t c
@@ -264,7 +264,7 @@ first-is p r (e ∷ es) t c q =
 none-first : (p : Panel) (r : Reader) (es : List Event) → met p (skippedBy p) r es ≡ 0 → countsOf p r es .first ≡ R.none
 none-first p r [] z = refl
 none-first p r (e ∷ es) z =
-    go (tally (r .mode) r (classify p e) .first) (none-first p (step r (classify p e)) es (omega arith)) (mode-named p (r .mode) r e)
+    go (countIn (r .mode) r (classify p e) .first) (none-first p (step r (classify p e)) es (omega arith)) (mode-named p (r .mode) r e)
   where
     go : (f : Skipped) → countsOf p (step r (classify p e)) es .first ≡ R.none → Named p (r .mode) e f
         → earlier f (countsOf p (step r (classify p e)) es .first) ≡ R.none
@@ -275,7 +275,7 @@ none-first p r (e ∷ es) z =
 
 first-none : (p : Panel) (r : Reader) (es : List Event) → countsOf p r es .first ≡ R.none → met p (skippedBy p) r es ≡ 0
 first-none p r [] q = refl
-first-none p r (e ∷ es) q = go (tally (r .mode) r (classify p e) .first) (first-none p (step r (classify p e)) es) (mode-named p (r .mode) r e) q
+first-none p r (e ∷ es) q = go (countIn (r .mode) r (classify p e) .first) (first-none p (step r (classify p e)) es) (mode-named p (r .mode) r e) q
   where
     go : (f : Skipped) → (countsOf p (step r (classify p e)) es .first ≡ R.none → met p (skippedBy p) (step r (classify p e)) es ≡ 0) → Named p (r .mode) e f
         → earlier f (countsOf p (step r (classify p e)) es .first) ≡ R.none → met p (skippedBy p) r (e ∷ es) ≡ 0
@@ -329,18 +329,18 @@ skip-others : (w : Unknown) (t c : ℕ) → others (R.oneSkipped w t c) ≡ noth
 skip-others ofType t c = refl
 skip-others ofCode t c = refl
 
-plain-tally : (m : Mode) (r : Reader) (x : Act) → others (tally m r (plain x)) ≡ others (tally m r x)
-plain-tally following r (skip w t c) = sym (skip-others w t c)
-plain-tally following r bad = refl
-plain-tally following r report = refl
-plain-tally following r loss = refl
-plain-tally following r (slot k) = refl
-plain-tally following r (number i v) = refl
-plain-tally dropped r x = refl
-plain-tally stale r x = refl
+plain-count : (m : Mode) (r : Reader) (x : Act) → others (countIn m r (plain x)) ≡ others (countIn m r x)
+plain-count following r (skip w t c) = sym (skip-others w t c)
+plain-count following r bad = refl
+plain-count following r report = refl
+plain-count following r loss = refl
+plain-count following r (slot k) = refl
+plain-count following r (number i v) = refl
+plain-count dropped r x = refl
+plain-count stale r x = refl
 
 -- Nor of the three other counts.
-pub plain-others : (r : Reader) (xs : List Act) → others (tallies r (map plain xs)) ≡ others (tallies r xs)
+pub plain-others : (r : Reader) (xs : List Act) → others (countAll r (map plain xs)) ≡ others (countAll r xs)
 plain-others r [] = refl
 plain-others r (x ∷ xs) =
-    ap₂ (λ a b. others (plus a b)) (plain-tally (r .mode) r x) (ap (λ q. others (tallies q (map plain xs))) (plain-step (r .mode) r x) ∙ plain-others (step r x) xs)
+    ap₂ (λ a b. others (plus a b)) (plain-count (r .mode) r x) (ap (λ q. others (countAll q (map plain xs))) (plain-step (r .mode) r x) ∙ plain-others (step r x) xs)

@@ -153,24 +153,24 @@ plus a b = record {
 }
 
 -- What an act found while following adds: an empty report counts as shown, repeated ids as one bad, a loss as nothing.
-abbrev pub tallyFollowing : Reader → Act → Counts
-tallyFollowing r (skip w t c) = oneSkipped w t c
-tallyFollowing r bad = oneBad
-tallyFollowing r report = cond (idsDiffer (r .pending)) oneShown oneBad
-tallyFollowing r loss = nothing
-tallyFollowing r (slot k) = nothing
-tallyFollowing r (number i v) = nothing
+abbrev pub countFollowing : Reader → Act → Counts
+countFollowing r (skip w t c) = oneSkipped w t c
+countFollowing r bad = oneBad
+countFollowing r report = cond (idsDiffer (r .pending)) oneShown oneBad
+countFollowing r loss = nothing
+countFollowing r (slot k) = nothing
+countFollowing r (number i v) = nothing
 
 -- What an act adds: every one that finds the mode not following is ignored, also one that changes the mode.
-abbrev pub tally : Mode → Reader → Act → Counts
-tally following r a = tallyFollowing r a
-tally dropped r a = ignoring 1
-tally stale r a = ignoring 1
+abbrev pub countIn : Mode → Reader → Act → Counts
+countIn following r a = countFollowing r a
+countIn dropped r a = ignoring 1
+countIn stale r a = ignoring 1
 
 -- The counts of a run of acts.
-abbrev pub tallies : Reader → List Act → Counts
-tallies r [] = nothing
-tallies r (a ∷ xs) = plus (tally (r .mode) r a) (tallies (step r a) xs)
+abbrev pub countAll : Reader → List Act → Counts
+countAll r [] = nothing
+countAll r (a ∷ xs) = plus (countIn (r .mode) r a) (countAll (step r a) xs)
 
 -- A run's end: the reader after it, and its counts.
 pub record Run : Type 0 where
@@ -179,4 +179,4 @@ pub record Run : Type 0 where
 
 -- A run over events.
 unfoldable pub run : Panel → Reader → List Event → Run
-run p r es = record { reader = read p r es; counts = tallies r (map (classify p) es) }
+run p r es = record { reader = read p r es; counts = countAll r (map (classify p) es) }

@@ -23,7 +23,7 @@ use Rattle.panel.specs.declared.Slot as S
 use Rattle.panel.specs.declared.Setup.{Setup}
 use Rattle.panel.specs.Seen.{slotOf, tableOf, axesOf, blank, sameFrom}
 use Rattle.panel.proofs.Tables.{rest-is}
-use Rattle.plan.specs.Row.{begun, held, stayed, unsigned, plainRow, plainRows, planFrom}
+use Rattle.plan.specs.Row.{begun, contactOf, stayed, unsigned, plainRow, plainRows, planFrom}
 
 -- ---- a row's numbers
 
@@ -82,7 +82,7 @@ fateBy k0 k2 lives = cond k0 none (cond k2 begins (cond lives goesOn begins))
 
 module _ (was : S.Slot) (x y p : ℤ) (j : ℕ) where
   begun-by : (k0 k2 lives : Bool) → begun (fateBy k0 k2 lives) ≡ true → (k0 || unsigned (three x y p)) ≡ true
-      → slotOf (held (pos j) x y p) ≡ slotAfter (fateBy k0 k2 lives) j (slotOf was) (three x y p)
+      → slotOf (contactOf (pos j) x y p) ≡ slotAfter (fateBy k0 k2 lives) j (slotOf was) (three x y p)
   begun-by true k2 lives e g = let z : _≡_ {A = ℕ} 0 1 = cc in absurd (omega arith)
   begun-by false true lives e g = ap (λ l. pos j ∷ l) (same-three x y p g)
   begun-by false false true e g = let z : _≡_ {A = ℕ} 0 1 = cc in absurd (omega arith)
@@ -97,7 +97,7 @@ module _ (was : S.Slot) (x y p : ℤ) (j : ℕ) where
 
   -- A slot in which a contact begins has the given id and the row's numbers.
   pub begun-slot : (kind : ℤ) → begun (fate kind (was .id .0)) ≡ true → plainRow (kind ∷ three x y p) ≡ true
-      → slotOf (held (pos j) x y p) ≡ slotAfter (fate kind (was .id .0)) j (slotOf was) (three x y p)
+      → slotOf (contactOf (pos j) x y p) ≡ slotAfter (fate kind (was .id .0)) j (slotOf was) (three x y p)
   begun-slot kind e g = begun-by (eqZ kind (pos 0)) (eqZ kind (pos 2)) (live (was .id .0)) e g
 
   -- In any other the id stays, or the contact is lifted.

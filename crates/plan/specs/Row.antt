@@ -23,8 +23,8 @@ begun goesOn = false
 begun begins = true
 
 -- A slot with an id and the bits of its row's numbers: no good row has a negative one.
-abbrev pub held : ℤ → ℤ → ℤ → ℤ → Slot
-held i x y p = record { id = record { 0 = i }; x = bitsOf x; y = bitsOf y; pressure = bitsOf p }
+abbrev pub contactOf : ℤ → ℤ → ℤ → ℤ → Slot
+contactOf i x y p = record { id = record { 0 = i }; x = bitsOf x; y = bitsOf y; pressure = bitsOf p }
 
 -- A slot without a contact: its other numbers stay.
 abbrev pub lifted : Slot → Slot
@@ -33,7 +33,7 @@ lifted was = record { id = record { 0 = minusOne }; x = was .x; y = was .y; pres
 -- A slot in which no contact begins, by whether its kind is 0.
 abbrev pub stayed : Bool → Slot → ℤ → ℤ → ℤ → Slot
 stayed true was x y p = lifted was
-stayed false was x y p = held (was .id .0) x y p
+stayed false was x y p = contactOf (was .id .0) x y p
 
 -- No number is negative.
 abbrev pub unsigned : List ℤ → Bool

@@ -9,7 +9,7 @@ ghost use Rattle.model.specs.Numbers.{eqZ};
 ghost use Rattle.model.specs.Table.{ids, unheld};
 ghost use Rattle.model.specs.Frame.{fate, freeId, next, rowsFrom, framed};
 ghost use Rattle.panel.specs.Seen.{tableOf, unusedAll, sameFrom};
-ghost use Rattle.plan.specs.Row.{begun, held, lifted, stayed, plainRows, plannedOf, RowsLeft, planFrom};
+ghost use Rattle.plan.specs.Row.{begun, contactOf, lifted, stayed, plainRows, plannedOf, RowsLeft, planFrom};
 use common::TrackingId;
 use panel::PER_SLOT;
 use panel::RECORDS;
@@ -95,7 +95,7 @@ fn begins(kind: i32, id: TrackingId) -> bool
 
 // A slot that has a contact: its id and the frame's numbers, which are not negative, so that their bits are they themselves.
 fn contact(id: TrackingId, x: i32, y: i32, pressure: i32) -> Slot
-    ensures { λ r. ⌜ r ≡ held (id .0) x y pressure ⌝ }
+    ensures { λ r. ⌜ r ≡ contactOf (id .0) x y pressure ⌝ }
 {
     let a = records::bits_of(x);
     let b = records::bits_of(y);

@@ -21,7 +21,7 @@ use Rattle.panel.specs.declared.Slot.{Slot}
 use Rattle.common.specs.declared.TrackingId.{TrackingId}
 use Rattle.panel.specs.Seen.{slotOf, tableOf, blank}
 use Rattle.panel.proofs.Apart.{front-holds}
-use Rattle.plan.specs.Row.{begun, held, stayed, plainRow, plainRows, planFrom}
+use Rattle.plan.specs.Row.{begun, contactOf, stayed, plainRow, plainRows, planFrom}
 use Rattle.plan.proofs.Turn as Turn
 use Rattle.plan.proofs.Turn.{begun-slot, stayed-slot, begun-taken, begun-counter, stayed-taken, stayed-counter}
 use Rattle.plan.proofs.give_ids.Statement.{statement}
@@ -275,9 +275,9 @@ loop-again c =
     let fi : SFits w32 (id .result .0) = search needs in
     let v : id .result .0 ≡ pos j = ap (λ (x : TrackingId). x .0) (id .ensures) ∙ ap pos ji in
     let w = made c .contact .result in
-    let e : w ≡ held (pos j) (number 1 b) (number 2 b) (number 3 b) =
+    let e : w ≡ contactOf (pos j) (number 1 b) (number 2 b) (number 3 b) =
     (rw (toZ-ofZ w32 (number 1 b) f1, toZ-ofZ w32 (number 2 b) f2, toZ-ofZ w32 (number 3 b) f3) at (made c .contact .ensures))
-    ∙ ap (λ i. held i (number 1 b) (number 2 b) (number 3 b)) v in
+    ∙ ap (λ i. contactOf i (number 1 b) (number 2 b) (number 3 b)) v in
     let m = top b .loop .m in
     let more = take (m + 1) (set (top b .loop .taken) m (pos j)) in
     let last : more ≡ taken b ++ pos j ∷ [] = rw add-one (take-suc-set (top b .loop .taken) m (pos j) (placed b)) in
@@ -366,12 +366,12 @@ returns c =
     let l = c .before .loop in
     let b = c .before .before in
     let a = b .before .args in
-    let held = take (a .n) (b .ids-of .result) in
+    let old = take (a .n) (b .ids-of .result) in
     let rows = rowsFrom perSlot (a .n - a .from) (a .frame .now) (perSlot * a .from) in
     -- the ids that are gathered are those of the old table
-    let same : Same (ids (tableOf (a .old))) held =
+    let same : Same (ids (tableOf (a .old))) old =
     λ k. front-holds (a .old) (a .n) (b .before .pre .1) (pos k) refl ∙ ap (unheld (pos k)) (sym (b .ids-of .ensures)) in
-    let gathered = planned-same (ids (tableOf (a .old))) held (a .counter) rows (tableOf (drop (a .from) (a .made))) same in
+    let gathered = planned-same (ids (tableOf (a .old))) old (a .counter) rows (tableOf (drop (a .from) (a .made))) same in
     sym (ap (after (tableOf (take (a .from) (a .made)))) gathered ∙ l .inv .whole
     ∙ Turn.no-row (take (l .m) (l .taken)) (l .k) (a .n) (a .frame .now) (l .t) (l .s) (c .loop-test .left))
 
