@@ -1,4 +1,5 @@
--- A turn of the reader's loop, as the model sees it: one law for each arm, over the loop's locals. Cited by the proof of `follow` and by the reader. Assumes nothing.
+-- A turn of the reader's loop, as the model sees it: one law for each arm, over the loop's locals.
+-- Cited by the proof of `follow` and by the reader. Assumes nothing.
 use mathlib.Core.Path.{_≡_, refl, sym, ap, _∙_, subst}
 use mathlib.Core.Bool.{Bool, true, false, false≢true}
 use mathlib.Core.List.{List, [], _∷_}
@@ -49,7 +50,8 @@ selected u e j q = ltb→lt j (u .n) (subst (Fit (fieldsOf u) (u .n)) q (fit (pa
 
 -- ---- a store to a slot
 
-pub onSlot-set : (f : T.Slot → T.Slot) (t : List Slot) (c : ℕ) (x : Slot) → c < length t → slotOf x ≡ f (slotOf (getD t c blank)) → R.onSlot (tableOf t) c f ≡ tableOf (set t c x)
+pub onSlot-set : (f : T.Slot → T.Slot) (t : List Slot) (c : ℕ) (x : Slot) → c < length t → slotOf x ≡ f (slotOf (getD t c blank))
+    → R.onSlot (tableOf t) c f ≡ tableOf (set t c x)
 onSlot-set f [] c x l e = absurd (omega arith)
 onSlot-set f (y ∷ t) zero x l e = ap {B = T.Table} (λ s. s ∷ tableOf t) (sym e)
 onSlot-set f (y ∷ t) (suc c) x l e = ap {B = T.Table} (λ u. slotOf y ∷ u) (onSlot-set f t c x (omega arith) e)
@@ -176,19 +178,23 @@ module _ (w : Place) where
   spoils e = with-counts _ _ _ (turn E.bad e) one-bad
 
   -- A number, where x is the slot with it.
-  pub stores : (i : ℕ) (v : ℤ) (x : Slot) → asks ≡ E.number i v → w .current < length (w .pending) → slotOf x ≡ set (slotOf (getD (w .pending) (w .current) blank)) i v
+  pub stores : (i : ℕ) (v : ℤ) (x : Slot) → asks ≡ E.number i v → w .current < length (w .pending)
+      → slotOf x ≡ set (slotOf (getD (w .pending) (w .current) blank)) i v
       → Goes (readerOf (w .shown) (set (w .pending) (w .current) x) (w .current) R.following) so
   stores i v x e h q =
       let stored = onSlot-set (λ z. set z i v) (w .pending) (w .current) x h q in
       with-counts _ _ _
-      (turn (E.number i v) e ∙ ap (λ p. onward (panelSeen (w .setup)) (R.follow (tableOf (w .shown)) p (w .current)) (R.plus so R.nothing) (from (w .k + 1))) stored)
+      (turn (E.number i v) e
+      ∙ ap (λ p. onward (panelSeen (w .setup)) (R.follow (tableOf (w .shown)) p (w .current)) (R.plus so R.nothing) (from (w .k + 1))) stored)
       same-counts
 
   -- The run's end, where track is lost in this turn.
   pub loses : (m : R.Mode) (bad : ℕ) → Lost m → Goes (settledAt (tableOf (w .shown)) (w .current) m) (counted (w .frames) (w .types) (w .codes) bad (w .first))
       → lostAt (w .shown) (record { 0 = w .current }) m (counted (w .frames) (w .types) (w .codes) bad (w .first)) (from (w .k + 1))
       ≡ endedFrom (onward (panelSeen (w .setup)) before so (from (w .k)))
-  loses m bad l g = lost-ended (panelSeen (w .setup)) (w .shown) (w .current) m (counted (w .frames) (w .types) (w .codes) bad (w .first)) (from (w .k + 1)) l refl ∙ ap endedFrom (sym g)
+  loses m bad l g =
+      let a = counted (w .frames) (w .types) (w .codes) bad (w .first) in
+      lost-ended (panelSeen (w .setup)) (w .shown) (w .current) m a (from (w .k + 1)) l refl ∙ ap endedFrom (sym g)
 
 -- the loop's end
 abbrev pub keptAt : List Slot → List Slot → SlotNumber → Counts → Ended

@@ -35,7 +35,16 @@ use Rattle.follow.proofs.follow.Statement.{statement}
 use Rattle.follow.proofs.follow.Tie as tie
 
 -- What the loop keeps: what is left of the run is the whole run's answer.
-record Kept (setup : Setup) (bytes : List ℕ) (count : ℕ) (start now : R.Reader) (pending : List Slot) (written : Bool) (so : R.Counts) (first k : ℕ) : Type 0 where
+record Kept
+    (setup : Setup)
+    (bytes : List ℕ)
+    (count : ℕ)
+    (start now : R.Reader)
+    (pending : List Slot)
+    (written : Bool)
+    (so : R.Counts)
+    (first k : ℕ)
+    : Type 0 where
   pub inside : k ≤ count
   pub below : now .current < setup .n
   pub few : so .shown + so .types + so .codes ≤ k
@@ -48,7 +57,8 @@ record Kept (setup : Setup) (bytes : List ℕ) (count : ℕ) (start now : R.Read
 
 abbrev Inv-loop : tie.InvT-loop
 Inv-loop setup bytes count shown₀ pending₀ written₀ current₀ frames₀ types₀ codes₀ first₀ k₀ shown pending written current frames types codes first k =
-    Kept setup bytes count (readerOf shown₀ pending₀ current₀ following) (readerOf shown pending current following) pending written (sofar frames types codes (firstAt bytes (types + codes) first)) first k
+    let so = sofar frames types codes (firstAt bytes (types + codes) first) in
+    Kept setup bytes count (readerOf shown₀ pending₀ current₀ following) (readerOf shown pending current following) pending written so first k
 
 abbrev μ-loop : tie.MeasureT-loop
 μ-loop setup bytes count shown₀ pending₀ written₀ current₀ frames₀ types₀ codes₀ first₀ k₀ shown pending written current frames types codes first k = count - k
@@ -113,6 +123,10 @@ lostWith p m a =
 -- The events after this turn's.
 abbrev after : (p : tie.After-act-of Inv-loop μ-loop) → List Event
 after p = let l = top p .loop in eventsFrom (count p - (l .k + 1)) (bytes p) (8 * (l .k + 1))
+
+-- The reader that this turn finds.
+abbrev now : (p : tie.After-act-of Inv-loop μ-loop) → R.Reader
+now p = let l = top p .loop in readerOf (l .shown) (l .pending) (l .current) following
 
 -- What was counted before this turn, and so many bad ones.
 abbrev withBad : (p : tie.After-act-of Inv-loop μ-loop) → ℕ → R.Counts
@@ -179,7 +193,7 @@ loop-again c =
     let name = names (bytes p) n _ (l .first) _ (l .k) more (c .earliest .ensures) (read p .type) (read p .code) refl refl in
     let left =
     l .inv .left ∙ skips-type (here p) (read p .type) (read p .code) e
-    ∙ ap (λ f. onward (panelSeen (setup p)) (readerOf (l .shown) (l .pending) (l .current) following) (sofar (l .frames) (l .types + 1) (l .codes) f) (after p)) name in
+    ∙ ap (λ f. onward (panelSeen (setup p)) (now p) (sofar (l .frames) (l .types + 1) (l .codes) f) (after p)) name in
     record {
       inside = search needs;
       below = l .inv .below;
@@ -218,7 +232,7 @@ loop-again-2 c =
     let name = names (bytes p) n _ (l .first) _ (l .k) more (c .earliest2 .ensures) (read p .type) (read p .code) refl refl in
     let left =
     l .inv .left ∙ skips-code (here p) (read p .type) (read p .code) e
-    ∙ ap (λ f. onward (panelSeen (setup p)) (readerOf (l .shown) (l .pending) (l .current) following) (sofar (l .frames) (l .types) (l .codes + 1) f) (after p)) name in
+    ∙ ap (λ f. onward (panelSeen (setup p)) (now p) (sofar (l .frames) (l .types) (l .codes + 1) f) (after p)) name in
     record {
       inside = search needs;
       below = l .inv .below;
@@ -338,7 +352,8 @@ loop-again-4 c =
     let j = c .before .a .given .0 .0 .0 in
     let e = asked p ∙ ap (act p) (c .before .a .given .1) in
     let left = l .inv .left ∙ selects (here p) j e in
-    record { inside = search needs; below = selected (setup p) (eventAt (bytes p) (8 * l .k)) j e; few = search needs; pends = l .inv .pends; left = left; slots = l .inv .slots; there = l .inv .there }
+    let below = selected (setup p) (read p) j e in
+    record { inside = search needs; below = below; few = search needs; pends = l .inv .pends; left = left; slots = l .inv .slots; there = l .inv .there }
 
 enum-known-a-2 : tie.Need-enum-known-a-2 Inv-loop μ-loop
 enum-known-a-2 c = search needs
@@ -370,7 +385,8 @@ loop-again-5 c =
     let x : Slot = record { id = v; x = o .x; y = o .y; pressure = o .pressure } in
     let e = asked p ∙ ap (act p) (c .before .before .a2 .given .1) in
     let left = l .inv .left ∙ stores (here p) 0 (v .0) x e (held p) refl in
-    record { inside = search needs; below = l .inv .below; few = search needs; pends = with-id (setup p .n) (l .written) (l .pending) (l .inv .pends) (l .current) x (l .inv .below); left = left; slots = l .inv .slots; there = l .inv .there }
+    let table = with-id (setup p .n) (l .written) (l .pending) (l .inv .pends) (l .current) x (l .inv .below) in
+    record { inside = search needs; below = l .inv .below; few = search needs; pends = table; left = left; slots = l .inv .slots; there = l .inv .there }
 
 enum-known-a-3 : tie.Need-enum-known-a-3 Inv-loop μ-loop
 enum-known-a-3 c = search needs
@@ -461,7 +477,8 @@ returns-4 c =
     let a = c .before .before .before .before .args in
     let l = c .before .before .loop in
     let s = a .bytes .now in
-    let end = ends (a .setup) s (length s / 8) (l .k) (l .shown) (l .pending) (l .current) (sofar (l .frames) (l .types) (l .codes) (firstAt s (l .types + l .codes) (l .first))) (search needs) in
+    let so = sofar (l .frames) (l .types) (l .codes) (firstAt s (l .types + l .codes) (l .first)) in
+    let end = ends (a .setup) s (length s / 8) (l .k) (l .shown) (l .pending) (l .current) so (search needs) in
     ap (keptAt (l .shown) (l .pending) (record { 0 = l .current })) (c .counted4 .ensures) ∙ end ∙ ap endedFrom (sym (l .inv .left))
 
 pub follow-spec : {M : Type 1} → statement M
