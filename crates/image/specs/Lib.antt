@@ -1,0 +1,1 @@
+-- The image's own definitions: none, its contracts cite the model's.

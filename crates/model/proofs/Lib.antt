@@ -43,6 +43,7 @@
 --   FreshSteady: fresh states are well formed.
 -- Requests of document 02
 --   SelfTest: a pod that waits differs in nothing but its first self-test (K3).
+--   Skips: what a run tells of the events that it skipped, by their numbers (K4).
 pub mod Bench
 pub mod AtReport
 pub mod Bools
