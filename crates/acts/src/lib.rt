@@ -95,7 +95,6 @@ fn abs_act(setup: panel::Setup, code: u16, value: u32) -> Act
     Act::UnknownCode
 }
 
-// What a record asks of a reader of this setup.
 pub fn act_of(setup: panel::Setup, e: records::Event) -> Act
     requires { ⌜ setupGood base (setupOf setup) ≡ true ⌝ }
     ensures { λ r. ⌜ actOf (e .kind) (e .code) r ≡ classify (panelSeen setup) (eventOf e) ⌝ }

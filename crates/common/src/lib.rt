@@ -40,7 +40,6 @@ pub fn nat_of(v: i32) -> u32
     v as u32
 }
 
-// Whether v is 0 to top.
 pub fn within(v: i32, top: u32) -> bool
     ensures { λ r. ⌜ r ≡ betweenZ (pos 0) (pos top) v ⌝ }
 {
@@ -50,7 +49,6 @@ pub fn within(v: i32, top: u32) -> bool
     nat_of(v) <= top
 }
 
-// Whether v is 1 to top.
 pub fn between(v: usize, top: usize) -> bool
     ensures { λ r. ⌜ r ≡ betweenN 1 top v ⌝ }
 {
@@ -123,7 +121,6 @@ pub struct Counts {
     pub first: FirstSkipped,
 }
 
-// The mode after a record that finds it not following.
 fn lost_step(mode: Mode, e: records::Event) -> Mode
     ensures { λ r. ⌜ modeOf r ≡ onLost (modeOf mode) (heard (eventOf e)) ⌝ }
 {

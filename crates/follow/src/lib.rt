@@ -19,7 +19,6 @@ use panel::RECORDS;
 use panel::Setup;
 use panel::Slot;
 
-// What a run leaves.
 pub struct Ended {
     pub shown: [Slot; RECORDS],
     pub pending: [Slot; RECORDS],

@@ -30,7 +30,6 @@ fn row_ok(setup: panel::Setup, id: i32, x: i32, y: i32, pressure: i32) -> bool
     panel::numbers_ok(setup, x, y, pressure)
 }
 
-// Whether every number is in its range.
 fn rows_ok(setup: panel::Setup, image: &[i32]) -> bool
     requires { ⌜ (setup .n ≤ records) × (length (now image) ≡ perSlot * setup .n) ⌝ }
     ensures { λ r. ⌜ r ≡ goodRecords (fieldsOf setup) (setup .n) (rowsFrom perSlot (setup .n) (now (image .entry)) 0) ⌝ }
@@ -70,7 +69,6 @@ pub fn image_table(setup: panel::Setup, image: &[i32]) -> [panel::Slot; panel::R
     t
 }
 
-// Whether an image may be loaded, with this current slot.
 pub fn image_ok(setup: panel::Setup, image: &[i32], current: common::SlotNumber) -> bool
     requires { ⌜ setup .n ≤ records ⌝ }
     ensures { λ r. ⌜ r ≡ imageGood (panelSeen setup) (now (image .entry)) (current .0) ⌝ }

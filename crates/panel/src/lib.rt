@@ -82,7 +82,6 @@ pub fn setup_ok(s: Setup) -> bool
     common::between(s.pressure as usize, MOST_PRESSURE)
 }
 
-// Whether x, y and pressure, as they came in, are in their ranges.
 pub fn numbers_ok(setup: Setup, x: i32, y: i32, pressure: i32) -> bool
     ensures { λ r. ⌜ r ≡ goodSlot (axesOf setup) (x ∷ y ∷ pressure ∷ []) ⌝ }
 {
@@ -150,7 +149,6 @@ fn slots_ok(setup: Setup, t: [Slot; RECORDS]) -> bool
     true
 }
 
-// Whether the records from n up were never used.
 fn rest_unused(n: usize, t: [Slot; RECORDS]) -> bool
     ensures { λ r. ⌜ r ≡ eqTable (tableOf (drop n t)) (tableOf (drop n unusedAll)) ⌝ }
 {
@@ -178,7 +176,6 @@ pub fn table_ok(setup: Setup, t: [Slot; RECORDS]) -> bool
     rest_unused(setup.n, t)
 }
 
-// Whether v is none of the first k ids.
 fn unheld_before(t: [Slot; RECORDS], k: usize, v: i32) -> bool
     requires { ⌜ k ≤ records ⌝ }
     ensures { λ r. ⌜ r ≡ unheld v (ids (tableOf (take k t))) ⌝ }
@@ -222,7 +219,6 @@ pub fn ids_differ(n: usize, t: [Slot; RECORDS]) -> bool
     true
 }
 
-// Whether two tables are the same that hold the same from record n up.
 pub fn tables_same(n: usize, a: [Slot; RECORDS], b: [Slot; RECORDS]) -> bool
     requires { ⌜ (n ≤ records) × sameFrom n a b ⌝ }
     ensures { λ r. ⌜ r ≡ eqTable (tableOf a) (tableOf b) ⌝ }

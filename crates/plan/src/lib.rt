@@ -120,7 +120,6 @@ fn lift(was: Slot) -> Slot
     }
 }
 
-// A slot after its row, where no contact begins.
 fn stays(kind: i32, was: Slot, x: i32, y: i32, pressure: i32) -> Slot
     ensures { λ r. ⌜ r ≡ stayed (eqZ kind (pos 0)) was x y pressure ⌝ }
 {

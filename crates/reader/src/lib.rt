@@ -143,7 +143,6 @@ fn tables_ok(s: ReaderState) -> bool
     settled_ok(mode, setup.n, shown, pending)
 }
 
-// Whether a state is well formed.
 pub fn state_ok(s: ReaderState) -> bool
     ensures { λ r. ⌜ r ≡ readerGood base (seen s) ⌝ }
 {
@@ -177,7 +176,6 @@ fn run_refused(state: ReaderState, verdict: Verdict) -> RunAnswer
     }
 }
 
-// The answer of a run that was not refused.
 fn ran(setup: Setup, e: Ended) -> RunAnswer
     ensures { λ r. ⌜ r ≡ accepted setup e ⌝ }
 {
@@ -300,7 +298,6 @@ pub fn load(state: ReaderState, image: &[i32], current: SlotNumber) -> LoadAnswe
     load_accepted(setup, image, current)
 }
 
-// What a shown slot is answered.
 fn shown_answer(s: Slot) -> SlotAnswer
     ensures { λ r. ⌜ r ≡ askedFrom (askedIn following (slotOf s)) ⌝ }
 {

@@ -5,7 +5,6 @@ ghost use lib.ListN.{length};
 ghost use Rattle.model.specs.Records.{bitsOf, signedOf, recordBytes, eventAt, join16 as joined16, join32 as joined32};
 ghost use Rattle.records.specs.Seen.{eventOf, over};
 
-// A record's bytes.
 pub const LENGTH: usize = 8;
 
 // Types and codes that document 01 lists.
@@ -48,7 +47,6 @@ pub fn join32(a: u8, b: u8, c: u8, d: u8) -> u32
     (a as u32) + 256 * (b as u32) + 65536 * (c as u32) + 16777216 * (d as u32)
 }
 
-// The record whose first byte stands at `at`.
 pub fn record_at(s: &[u8], at: usize) -> Event
     requires { ⌜ at + 8 ≤ length (now s) ⌝ }
     ensures { λ r. ⌜ eventOf r ≡ eventAt (now (s .entry)) at ⌝ }
@@ -59,7 +57,6 @@ pub fn record_at(s: &[u8], at: usize) -> Event
     Event { kind, code, value }
 }
 
-// The bits of a number in two's complement.
 pub fn bits_of(z: i32) -> u32
     ensures { λ r. ⌜ r ≡ bitsOf z ⌝ }
 {
@@ -69,7 +66,7 @@ pub fn bits_of(z: i32) -> u32
     0xffff_ffff - (!z as u32)
 }
 
-// And back. By the complement, since no cast of 2^31 and more to an i32 is defined.
+// By the complement, since no cast of 2^31 and more to an i32 is defined.
 pub fn signed_of(v: u32) -> i32
     ensures { λ r. ⌜ r ≡ signedOf v ⌝ }
 {

@@ -72,7 +72,6 @@ fn put_changes(b: &mut [u8], old: Slot, new: Slot) -> usize
     k + n
 }
 
-// A slot's changes, opened by its number.
 fn put_opened(b: &mut [u8], s: SlotNumber, old: Slot, new: Slot) -> usize
     requires { ⌜ (s .0 < records) × (length (bytesSent (sendSlot (s .0) ∷ changes 0 (slotOf old) (slotOf new))) ≤ length (now b)) ⌝ }
     ensures { λ r. ⌜ (r ≡ length (bytesSent (sendSlot (s .0) ∷ changes 0 (slotOf old) (slotOf new)))) × (now (b .exit) ≡ over (bytesSent (sendSlot (s .0) ∷ changes 0 (slotOf old) (slotOf new))) (now (b .entry))) ⌝ }

@@ -41,7 +41,6 @@ fn differ(a: Slot, b: Slot) -> u32
     unlike_id(i, j) + (unlike(a.x, b.x) + (unlike(a.y, b.y) + unlike(a.pressure, b.pressure)))
 }
 
-// 1 for a slot that has a changed number.
 fn some(d: u32) -> u16
     ensures { λ r. ⌜ (r ≤ 1) × (r ≡ oneUnless (eqb d 0)) ⌝ }
 {
@@ -102,7 +101,6 @@ pub struct Changed {
     pub events: usize,
 }
 
-// What a frame changes in a table whose records from n up stay.
 pub fn count_changes(
     n: usize,
     old: [Slot; RECORDS],
