@@ -36,8 +36,13 @@ impl Setup {
             && (1..=255).contains(&self.pressure)
     }
 
-    pub fn numbers_ok(&self, x: u32, y: u32, pressure: u32) -> bool {
+    fn numbers_ok(&self, x: u32, y: u32, pressure: u32) -> bool {
         x <= self.x && y <= self.y && pressure <= self.pressure
+    }
+
+    /// Whether a frame may give a contact these numbers.
+    pub fn contact_ok(&self, x: u32, y: u32, pressure: u32) -> bool {
+        pressure >= 1 && self.numbers_ok(x, y, pressure)
     }
 
     fn slot_ok(&self, s: &Slot) -> bool {

@@ -76,7 +76,7 @@ const BAD_SETUPS: [[u32; 4]; 8] = [
 ];
 
 /// What is done to a good call of four slots in contact, and the number that refuses it.
-const BROKEN: [(u64, fn(&mut Call)); 28] = [
+const BROKEN: [(u64, fn(&mut Call)); 29] = [
     (2, |c| c.state.setup.n = 0),
     (2, |c| c.state.setup.n = 17),
     (2, |c| c.state.setup.x = 32768),
@@ -102,6 +102,7 @@ const BROKEN: [(u64, fn(&mut Call)); 28] = [
     (4, |c| c.frame[2] = i32::MIN),
     (4, |c| c.frame[6] = 4001),
     (4, |c| c.frame[15] = 256),
+    (4, |c| c.frame[3] = 0),
     (5, |c| c.at = c.buf.len() + 1),
     (5, |c| c.at = usize::MAX),
     (5, |c| c.buf.truncate(c.at + 39)),
@@ -129,11 +130,11 @@ fn over_refusals(verdicts: &mut Verdicts) -> Result<(), String> {
 /// A call with good numbers for the most part.
 fn random_call(state: State, noise: &mut Noise) -> Call {
     let Setup { n, x, y, pressure } = state.setup;
-    let row = |_| [noise.below(3), noise.below(x + 1), noise.below(y + 1), noise.below(pressure + 1)];
+    let row = |_| [noise.below(3), noise.below(x + 1), noise.below(y + 1), 1 + noise.below(pressure)];
     let mut frame: Vec<i32> = (0..n).flat_map(row).map(|v| v as i32).collect();
     if noise.one_in(8) {
         let at = noise.below(4 * n) as usize;
-        frame[at] = noise.pick(&[-1, 3, 70_000, i32::MIN]);
+        frame[at] = noise.pick(&[-1, 0, 3, 70_000, i32::MIN]);
     }
     let size = if noise.one_in(8) { noise.below(60) } else { ROOM as u32 + 40 };
     let mut call = Call { state, frame, buf: vec![0xa5; size as usize], at: noise.below(41) as usize };

@@ -12,7 +12,7 @@ struct Written {
 fn values_ok(setup: &Setup, frame: &[i32]) -> bool {
     frame.chunks_exact(4).all(|row| match row[0] {
         0 => true,
-        1 | 2 => setup.numbers_ok(row[1] as u32, row[2] as u32, row[3] as u32),
+        1 | 2 => setup.contact_ok(row[1] as u32, row[2] as u32, row[3] as u32),
         _ => false,
     })
 }

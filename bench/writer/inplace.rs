@@ -63,7 +63,7 @@ fn judge(setup: &Setup, row: &[i32], slot: &Slot) -> Option<u64> {
     let (x, y, pressure) = (row[1] as u32, row[2] as u32, row[3] as u32);
     match row[0] {
         0 => Some((slot.id != -1) as u64 * ID),
-        kind @ (1 | 2) if setup.numbers_ok(x, y, pressure) => Some(
+        kind @ (1 | 2) if setup.contact_ok(x, y, pressure) => Some(
             (kind == 2 || slot.id == -1) as u64 * ID
                 + (x != slot.x) as u64 * X
                 + (y != slot.y) as u64 * Y

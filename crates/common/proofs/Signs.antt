@@ -60,6 +60,9 @@ within-neg (negsuc n) top e = refl
 pub first-false : (a b : Bool) → a ≡ false → (a && b) ≡ false
 first-false a b e = rw e
 
+pub first-true : (a b : Bool) → a ≡ true → (a && b) ≡ b
+first-true a b e = rw e
+
 pub and-false : (a b : Bool) → b ≡ false → (a && b) ≡ false
 and-false true b e = e
 and-false false b e = refl

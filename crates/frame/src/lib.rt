@@ -7,31 +7,36 @@ ghost use lib.IntN.{pos};
 ghost use lib.ListN.{length};
 ghost use Rattle.model.specs.Numbers.{betweenZ};
 ghost use Rattle.model.specs.Panel.{base, setupGood, perSlot};
-ghost use Rattle.model.specs.Table.{goodSlot};
-ghost use Rattle.model.specs.Frame.{goodRow, valuesGood};
+ghost use Rattle.model.specs.Frame.{goodContact, goodRow, valuesGood};
 ghost use Rattle.panel.specs.Seen.{setupOf, axesOf, panelSeen};
+use panel::LEAST_POSITION;
+use panel::LEAST_PRESSURE;
 use panel::PER_SLOT;
 use panel::Setup;
 
-// Whether v is 0 to top. The bits of a negative number are above every top, so one comparison does, where `common::within` needs two.
-fn in_range(v: i32, top: u32) -> bool
+// Whether v is least to top. The bits of a negative number are above every top, so no sign is tested.
+fn in_range(v: i32, least: u32, top: u32) -> bool
     requires { ⌜ top < 2147483648 ⌝ }
-    ensures { λ r. ⌜ r ≡ betweenZ (pos 0) (pos top) v ⌝ }
+    ensures { λ r. ⌜ r ≡ betweenZ (pos least) (pos top) v ⌝ }
 {
-    records::bits_of(v) <= top
+    let bits = records::bits_of(v);
+    if bits < least {
+        return false;
+    }
+    bits <= top
 }
 
 fn numbers_in(setup: Setup, x: i32, y: i32, pressure: i32) -> bool
     requires { ⌜ (setup .x < 2147483648) × (setup .y < 2147483648) × (setup .pressure < 2147483648) ⌝ }
-    ensures { λ r. ⌜ r ≡ goodSlot (axesOf setup) (x ∷ y ∷ pressure ∷ []) ⌝ }
+    ensures { λ r. ⌜ r ≡ goodContact (axesOf setup) (x ∷ y ∷ pressure ∷ []) ⌝ }
 {
-    if !in_range(x, setup.x) {
+    if !in_range(x, LEAST_POSITION, setup.x) {
         return false;
     }
-    if !in_range(y, setup.y) {
+    if !in_range(y, LEAST_POSITION, setup.y) {
         return false;
     }
-    in_range(pressure, setup.pressure)
+    in_range(pressure, LEAST_PRESSURE, setup.pressure)
 }
 
 // One slot's row. The other numbers count only where there is a contact.
@@ -42,7 +47,7 @@ fn row_ok(setup: Setup, kind: i32, x: i32, y: i32, pressure: i32) -> bool
     if common::same(kind, 0) {
         return true;
     }
-    if !in_range(kind, 2) {
+    if !in_range(kind, 1, 2) {
         return false;
     }
     numbers_in(setup, x, y, pressure)

@@ -4,6 +4,7 @@
 -- Demands: what is written reads back (demand 2), in the fewest events (demand 3); what is loaded is shown.
 -- Limits: the changed-slot number's ones and bits, and the most events and bytes of a write.
 -- Skips: what a run tells of the events that it skipped (K4).
+-- Presses: 4 of a frame, by document 01's ranges and the pressure of each contact (K8).
 -- Cut: a run may be cut between two records, and one record by itself is a run on its eight bytes.
 -- Steady: well-formed states stay well formed, call after call.
 -- Loss: after a reported loss every slot is answered "unknown" until a load is accepted (demand 2).
@@ -13,6 +14,7 @@ pub mod Exact
 pub mod Demands
 pub mod Limits
 pub mod Skips
+pub mod Presses
 pub mod Cut
 pub mod Steady
 pub mod Loss

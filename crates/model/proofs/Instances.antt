@@ -25,7 +25,7 @@ base-bytes = refl
 
 -- Touch sizes after pressure, and 32 records: 224 events at most, and what is written reads back.
 abbrev wide : Layout
-wide = record { records = 32; axes = base .axes ++ record { code = 0x30; most = 255 } ∷ record { code = 0x31; most = 255 } ∷ [] }
+wide = record { records = 32; axes = base .axes ++ record { code = 0x30; most = 255; least = 0 } ∷ record { code = 0x31; most = 255; least = 0 } ∷ [] }
 
 wide-most : (s : WriterState) (f : List ℤ) → T (writerGood wide s) → T (valuesGood (panelOf wide (s .setup)) f) → length (frameEvents (panelOf wide (s .setup)) (s .writer) f) ≤ 224
 wide-most s f w v = frame-limit wide s f tt w v

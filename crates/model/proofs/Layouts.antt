@@ -26,7 +26,7 @@ axes-carried (a ∷ axes) (v ∷ vs) c g =
     let x = both-left (ltb (a .code) 65_536 && ltb (a .most) 2_147_483_648) _ c in
     let m = ltb→lt (a .most) 2_147_483_648 (both-right (ltb (a .code) 65_536) _ x) in
     let top = leb→le v (a .most) (both-right (leb 1 v) _ (both-left (between 1 (a .most) v) _ g)) in
-    both (carried (record { code = a .code; low = pos 0; high = pos v })) _
+    both (carried (record { code = a .code; low = pos 0; high = pos v; least = pos (a .least) })) _
     (both (ltb (a .code) 65_536 && betweenZ (negsuc 2_147_483_647) (pos 2_147_483_647) (pos 0)) _
     (both (ltb (a .code) 65_536) _ (both-left (ltb (a .code) 65_536) _ x) tt)
     (le→leb v 2_147_483_647 (omega arith)))

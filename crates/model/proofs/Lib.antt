@@ -44,6 +44,7 @@
 -- Requests of document 02
 --   SelfTest: a pod that waits differs in nothing but its first self-test (K3).
 --   Skips: what a run tells of the events that it skipped, by their numbers (K4).
+--   Presses: the values that a writer accepts are those in document 01's ranges with no contact of pressure 0 (K8).
 pub mod Bench
 pub mod AtReport
 pub mod Bools
@@ -58,6 +59,7 @@ pub mod Cut
 pub mod Lost
 pub mod Loss
 pub mod Skips
+pub mod Presses
 pub mod Least
 pub mod Ids
 pub mod Tries

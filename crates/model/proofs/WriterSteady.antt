@@ -14,7 +14,7 @@ use Rattle.model.proofs.Ids.{fated, freeId-below, counter-below, ids-ap
 use Rattle.model.specs.Numbers.{eqZ}
 use Rattle.model.specs.Panel.{Field, Panel, idField, idCount, lastId}
 use Rattle.model.specs.Table.{Slot, Table, idOf, numbersOf, live, ids, idsDiffer, fits, goodSlot, goodRecords, goodTable}
-use Rattle.model.specs.Frame.{kindOf, goodRow, goodRows, Fate, none, goesOn, begins, fate, freeId, planned, newTable, newCounter}
+use Rattle.model.specs.Frame.{kindOf, given, goodContact, goodRow, goodRows, Fate, none, goesOn, begins, fate, freeId, planned, newTable, newCounter}
 use Rattle.model.specs.Sending.{sending, currentAfter}
 use Rattle.model.specs.States.{Writer, goodWriter}
 
@@ -49,11 +49,19 @@ facts-writer p w s =
 
 -- ---- a frame's table is good
 
+-- What a frame may give is good in a table.
+pub contact-slot : (axes : List Field) (vs : List ℤ) → T (goodContact axes vs) → T (goodSlot axes vs)
+contact-slot [] [] g = tt
+contact-slot [] (v ∷ vs) g = g
+contact-slot (f ∷ fs) [] g = g
+contact-slot (f ∷ fs) (v ∷ vs) g =
+    both (fits f v) _ (both-left (fits f v) _ (both-left (given f v) (goodContact fs vs) g)) (contact-slot fs vs (both-right (given f v) (goodContact fs vs) g))
+
 -- A row that is good holds good numbers unless its kind is 0.
 row-numbers : (axes : List Field) (g : List ℤ) → T (goodRow axes g) → eqZ (kindOf g) (pos 0) ≡ false → T (goodSlot axes (numbersOf g))
 row-numbers axes g r e =
-    let h : T ((eqZ (kindOf g) (pos 1) || eqZ (kindOf g) (pos 2)) && goodSlot axes (numbersOf g)) = rw e at r in
-    both-right (eqZ (kindOf g) (pos 1) || eqZ (kindOf g) (pos 2)) _ h
+    let h : T ((eqZ (kindOf g) (pos 1) || eqZ (kindOf g) (pos 2)) && goodContact axes (numbersOf g)) = rw e at r in
+    contact-slot axes (numbersOf g) (both-right (eqZ (kindOf g) (pos 1) || eqZ (kindOf g) (pos 2)) _ h)
 
 -- A contact is there after the row.
 abbrev Contact : Fate → Type 0

@@ -1,4 +1,4 @@
--- The bench sheet's cases marked P, as one table: what is given, and what document 01 says comes of it. Bench of proofs/ shows every row. Assumes nothing.
+-- The bench sheet's cases marked P and the run cases of document 02, as tables: what is given, and what the papers say comes of it. Bench of proofs/ shows every row. Assumes nothing.
 use mathlib.Core.Bool.{false}
 use mathlib.Core.List.{List, [], _∷_, _++_}
 use Prim.Native.Nat.{ℕ, _-_}
@@ -11,7 +11,7 @@ use Rattle.model.specs.Records.{bytesOf}
 use Rattle.model.specs.Reader.{Counts, nothing, oneShown, follow}
 use Rattle.model.specs.States.{WriterState, ReaderState}
 use Rattle.model.specs.Pod as P
-use Rattle.model.specs.Calls.{accepted, freshWriterCall, Written, writeCall, writeBuffer, Ran, runCall}
+use Rattle.model.specs.Calls.{Verdict, accepted, value, freshWriterCall, Written, writeCall, writeBuffer, Ran, runCall}
 
 -- ---- a case and its outcome
 
@@ -162,3 +162,31 @@ selfTests =
     ∷ hears (0xf8 ∷ 0xf0 ∷ 0xf0 ∷ []) P.fresh (P.relative false false (negsuc 15) (negsuc 15) ∷ [])
     ∷ hears (0xf1 ∷ []) P.fresh (P.keyUp 0x71 ∷ [])
     ∷ []
+
+-- A row: a frame on a writer's state and an empty buffer, refused: the state stays, and there is nothing to read.
+abbrev pub refuses : WriterState → List ℤ → Verdict → Row
+refuses old f v = record {
+  given = frame old f [];
+  gives = wrote (record { verdict = v; state = old; count = 0; changed = 0; need = 0 }) [] (record { verdict = accepted; state = pupil old; counts = nothing });
+}
+
+-- A writer of one slot whose contact, of an older table, has pressure 0.
+abbrev pub pale : ℤ → ℕ → WriterState
+pale i k = writer 1 (at i 5 5 0 ∷ []) 0 k
+
+-- 02's K8, run cases and yet shown: pressure 0 of a contact that begins, stays or is replaced, also where there is no room; pressure 1, with x and y 0;
+-- an empty row of pressure 0; a live slot of pressure 0 that is lifted.
+abbrev pub pressures : List Row
+pressures =
+    refuses fresh (kind 1 100 200 0 ++ kind 0 0 0 0) value
+    ∷ refuses after1 (kind 1 100 200 0 ++ kind 0 0 0 0) value
+    ∷ refuses after1 (kind 2 100 200 0 ++ kind 0 0 0 0) value
+    ∷ refuses (pale (pos 0) 1) (kind 1 5 5 0) value
+    ∷ turns (writer 1 [] 0 0) (kind 1 0 0 1) (bytesOf (ID (pos 0) ∷ PRESSURE (pos 1) ∷ REPORT ∷ [])) 3 1 (writer 1 (at (pos 0) 0 0 1 ∷ []) 0 1) oneShown
+    ∷ turns (writer 1 [] 0 0) (kind 0 0 0 0) [] 0 0 (writer 1 [] 0 0) nothing
+    ∷ turns (pale (pos 0) 1) (kind 0 0 0 0) (bytesOf (ID (negsuc 0) ∷ REPORT ∷ [])) 2 1 (pale (negsuc 0) 1) oneShown
+    ∷ []
+
+-- The events with which an older panel says that its contact's pressure is 0.
+abbrev pub pales : List Event
+pales = PRESSURE (pos 0) ∷ REPORT ∷ []

@@ -1,13 +1,14 @@
 -- A frame: what becomes of each slot, which ids are given, the new table and the new counter. Assumes nothing.
-use mathlib.Core.Bool.{Bool, true, cond, _&&_, _||_}
+use mathlib.Core.Bool.{Bool, true, false, cond, _&&_, _||_}
 use mathlib.Core.List.{List, [], _∷_, _++_}
 use Prim.Native.Nat.{ℕ, zero, suc, _+_, _*_, _%_}
 use lib.Dec.{eqb}
 use lib.IntN.{ℤ, pos}
 use lib.ListN.{length, getD}
+use lib.Signed.{leZ}
 use Rattle.model.specs.Numbers.{eqZ, minusOne}
 use Rattle.model.specs.Panel.{Field, Panel, idCount, lastId}
-use Rattle.model.specs.Table.{Slot, Table, idOf, numbersOf, live, unheld, ids, goodSlot}
+use Rattle.model.specs.Table.{Slot, Table, idOf, numbersOf, live, unheld, ids, fits}
 
 -- ---- flat runs of numbers, read k at a time
 
@@ -35,9 +36,20 @@ sized p l = eqb (length l) (length (p .fields) * p .slots)
 abbrev pub kindOf : List ℤ → ℤ
 kindOf g = idOf g
 
--- Kind 0, or kind 1 or 2 with good numbers: the fields are those after the id.
+-- A frame may give a contact the value v: it fits the field, and is not below the field's least.
+abbrev pub given : Field → ℤ → Bool
+given f v = fits f v && leZ (f .least) v
+
+-- There is one number for each field, and a frame may give each.
+abbrev pub goodContact : List Field → List ℤ → Bool
+goodContact [] [] = true
+goodContact [] (v ∷ vs) = false
+goodContact (f ∷ fs) [] = false
+goodContact (f ∷ fs) (v ∷ vs) = given f v && goodContact fs vs
+
+-- Kind 0, whose numbers are not judged, or kind 1 or 2 with a good contact's numbers: the fields are those after the id.
 abbrev pub goodRow : List Field → List ℤ → Bool
-goodRow axes g = eqZ (kindOf g) (pos 0) || ((eqZ (kindOf g) (pos 1) || eqZ (kindOf g) (pos 2)) && goodSlot axes (numbersOf g))
+goodRow axes g = eqZ (kindOf g) (pos 0) || ((eqZ (kindOf g) (pos 1) || eqZ (kindOf g) (pos 2)) && goodContact axes (numbersOf g))
 
 -- All rows are good.
 abbrev pub goodRows : List Field → List (List ℤ) → Bool

@@ -14,5 +14,6 @@ pub mod States
 pub mod Calls
 pub mod Pod
 pub mod Refusals
+pub mod Presses
 pub mod Bench
 pub mod Unique

@@ -7,10 +7,11 @@ use lib.Dec.{eqb, ltb}
 use lib.IntN.{ℤ, pos, negsuc}
 use Rattle.model.specs.Numbers.{minusOne, between, betweenZ}
 
--- A number of a slot besides its tracking id: its event code, and the most that a setup may give as its largest value.
+-- A number of a slot besides its tracking id: its event code, the most that a setup may give as its largest value, and the least that a frame may give it.
 pub record Axis : Type 0 where
   pub code : ℕ
   pub most : ℕ
+  pub least : ℕ
 
 -- What all panels of one program share: how many slot records a table holds, and the axes in the order of sending.
 pub record Layout : Type 0 where
@@ -33,11 +34,12 @@ largestGood (a ∷ rest) (v ∷ vs) = between 1 (a .most) v && largestGood rest 
 abbrev pub setupGood : Layout → Setup → Bool
 setupGood l u = between 1 (l .records) (u .slots) && largestGood (l .axes) (u .largest)
 
--- A number of a slot record: the code of its event, and its lowest and highest value.
+-- A number of a slot record: the code of its event, its lowest and highest value, and the least that a frame may give it.
 pub record Field : Type 0 where
   pub code : ℕ
   pub low : ℤ
   pub high : ℤ
+  pub least : ℤ
 
 -- What the machines know of a panel: its slots, the records that a table holds, and a slot's fields.
 pub record Panel : Type 0 where
@@ -52,15 +54,15 @@ lastId = 65_535
 abbrev pub idCount : ℕ
 idCount = 65_536
 
--- ABS_MT_TRACKING_ID, -1 for unused, else 0 to the last id.
+-- ABS_MT_TRACKING_ID, -1 for unused, else 0 to the last id; a frame gives no ids, so its least is its lowest.
 abbrev pub idField : Field
-idField = record { code = 0x39; low = minusOne; high = pos lastId }
+idField = record { code = 0x39; low = minusOne; high = pos lastId; least = minusOne }
 
--- The fields of the axes, each 0 to its largest value; an axis or a largest value that has no partner gives none.
+-- The fields of the axes, each 0 to its largest value, from its least in a frame; an axis or a largest value that has no partner gives none.
 abbrev pub axisFields : List Axis → List ℕ → List Field
 axisFields [] vs = []
 axisFields (a ∷ rest) [] = []
-axisFields (a ∷ rest) (v ∷ vs) = record { code = a .code; low = pos 0; high = pos v } ∷ axisFields rest vs
+axisFields (a ∷ rest) (v ∷ vs) = record { code = a .code; low = pos 0; high = pos v; least = pos (a .least) } ∷ axisFields rest vs
 
 -- The panel of a setup: the tracking id is the first field.
 abbrev pub panelOf : Layout → Setup → Panel
@@ -118,10 +120,17 @@ records = 16
 abbrev pub perSlot : ℕ
 perSlot = 4
 
--- Document 01's layout: sixteen records; ABS_MT_POSITION_X and _Y up to 32,767, ABS_MT_PRESSURE up to 255.
+-- ABS_MT_POSITION_X and _Y, up to 32,767.
+abbrev pub xAxis : Axis
+xAxis = record { code = 0x35; most = 32_767; least = 0 }
+
+abbrev pub yAxis : Axis
+yAxis = record { code = 0x36; most = 32_767; least = 0 }
+
+-- ABS_MT_PRESSURE, up to 255: a frame's contact presses with 1 or more (K8), a table may hold 0.
+abbrev pub pressureAxis : Axis
+pressureAxis = record { code = 0x3a; most = 255; least = 1 }
+
+-- Document 01's layout: sixteen records of an id, x, y and pressure.
 abbrev pub base : Layout
-base =
-    record {
-      records = records;
-      axes = record { code = 0x35; most = 32_767 } ∷ record { code = 0x36; most = 32_767 } ∷ record { code = 0x3a; most = 255 } ∷ [];
-    }
+base = record { records = records; axes = xAxis ∷ yAxis ∷ pressureAxis ∷ [] }

@@ -1,4 +1,4 @@
--- A slot's tests, by the first number that fails. Cited by the proofs of `slot_ok`, `slots_same` and `numbers_ok`, and by frame. Assumes nothing.
+-- A slot's tests, by the first number that fails. Cited by the proofs of `slot_ok`, `slots_same` and `numbers_ok`. Assumes nothing.
 use mathlib.Core.Path.{_≡_, sym, ap, ap₂, _∙_}
 use mathlib.Core.Bool.{Bool, true, false, _&&_}
 use mathlib.Core.List.{[], _∷_}

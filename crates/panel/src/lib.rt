@@ -19,6 +19,11 @@ pub const MOST_POSITION: usize = 32767;
 
 pub const MOST_PRESSURE: usize = 255;
 
+// The least that a frame may give a contact as x and y, and as pressure. A table may hold less.
+pub const LEAST_POSITION: u32 = 0;
+
+pub const LEAST_PRESSURE: u32 = 1;
+
 // The numbers of a slot are unsigned but for the id: only good numbers are ever held, and a test against a largest value is one comparison.
 pub struct Slot {
     pub id: TrackingId,

@@ -10,18 +10,18 @@ use lib.IntN.{ℤ, pos, negsuc}
 use lib.ListN.{length, take, drop, getD, set, take-append-drop}
 use lib.Seq.{take-suc-set, drop-set-lt}
 use lib.Signed.{leZ}
-use Rattle.model.specs.Panel.{perSlot}
+use Rattle.model.specs.Panel.{Axis, base, axisFields, perSlot}
 use Rattle.model.specs.Numbers.{eqZ, betweenZ}
-use Rattle.model.specs.Table.{Table, idOf, numbersOf, ids, goodSlot, live}
+use Rattle.model.specs.Table.{Table, idOf, numbersOf, ids, live}
 use Rattle.model.specs.Records.{bitsOf}
-use Rattle.model.specs.Frame.{numbersFrom, rowsFrom, kindOf, goodRow, goodRows, Fate, none, goesOn, begins, fate}
+use Rattle.model.specs.Frame.{numbersFrom, rowsFrom, kindOf, goodContact, goodRow, goodRows, Fate, none, goesOn, begins, fate}
 use Rattle.model.specs.Frame.{freeId, slotAfter, takenAfter, counterAfter, Planned, after, planned, newTable}
 use Rattle.model.proofs.Bools.{and-left, and-right}
 use Rattle.model.proofs.Rows.{rows-next, rows-none, row-of-four}
 use Rattle.model.proofs.Tries.{Same, planned-same}
 use Rattle.panel.specs.declared.Slot as S
 use Rattle.panel.specs.declared.Setup.{Setup}
-use Rattle.panel.specs.Seen.{slotOf, tableOf, axesOf, blank, sameFrom}
+use Rattle.panel.specs.Seen.{slotOf, tableOf, setupOf, axesOf, blank, sameFrom}
 use Rattle.panel.proofs.Tables.{rest-is}
 use Rattle.plan.specs.Row.{begun, contactOf, stayed, unsigned, plainRow, plainRows, planFrom}
 
@@ -41,34 +41,36 @@ same-three x y p e =
     let g = and-right (leZ (pos 0) y) _ f in
     rw (own-bits x _ e, own-bits y _ f, own-bits p _ g)
 
--- Numbers that are good for a setup are not negative.
-good-unsigned : (u : Setup) (x y p : ℤ) → goodSlot (axesOf u) (three x y p) ≡ true → unsigned (three x y p) ≡ true
-good-unsigned u x y p g =
-    let g2 = and-right (betweenZ (pos 0) (pos (u .x)) x) _ g in
-    let g3 = and-right (betweenZ (pos 0) (pos (u .y)) y) _ g2 in
-    let a = and-left (leZ (pos 0) x) _ (and-left (betweenZ (pos 0) (pos (u .x)) x) _ g) in
-    let b = and-left (leZ (pos 0) y) _ (and-left (betweenZ (pos 0) (pos (u .y)) y) _ g2) in
-    let d = and-left (leZ (pos 0) p) _ (and-left (betweenZ (pos 0) (pos (u .pressure)) p) _ g3) in
-    rw (a, b, d)
+-- A contact's numbers are not negative, whatever the axes.
+contact-unsigned : (axes : List Axis) (largest : List ℕ) (vs : List ℤ) → goodContact (axisFields axes largest) vs ≡ true → unsigned vs ≡ true
+contact-unsigned axes largest [] g = refl
+contact-unsigned [] largest (v ∷ vs) g = let z : _≡_ {A = ℕ} 0 1 = cc in absurd (omega arith)
+contact-unsigned (a ∷ axes) [] (v ∷ vs) g = let z : _≡_ {A = ℕ} 0 1 = cc in absurd (omega arith)
+contact-unsigned (a ∷ axes) (m ∷ largest) (v ∷ vs) g =
+    let range = betweenZ (pos 0) (pos m) v in
+    let here = range && leZ (pos (a .least)) v in
+    let more = goodContact (axisFields axes largest) vs in
+    let e = and-left (leZ (pos 0) v) (leZ v (pos m)) (and-left range _ (and-left here more g)) in
+    ap₂ (λ c d. c && d) e (contact-unsigned axes largest vs (and-right here more g))
 
-row-plain : (u : Setup) (k x y p : ℤ) → goodRow (axesOf u) (k ∷ three x y p) ≡ true → plainRow (k ∷ three x y p) ≡ true
-row-plain u k x y p g =
-    let known = eqZ k (pos 1) || eqZ k (pos 2) in
-    (elim (eqZ k (pos 0)) as (λ b. (b || (known && goodSlot (axesOf u) (three x y p))) ≡ true → (b || unsigned (three x y p)) ≡ true) [
-      | true ↦ λ e. refl
-      | false ↦ λ e. good-unsigned u x y p (and-right known _ e)
-    ]) g
+row-plain : (axes : List Axis) (largest : List ℕ) (g : List ℤ) → goodRow (axisFields axes largest) g ≡ true → plainRow g ≡ true
+row-plain axes largest g e =
+    let known = eqZ (kindOf g) (pos 1) || eqZ (kindOf g) (pos 2) in
+    let vs = numbersOf g in
+    (elim (eqZ (kindOf g) (pos 0)) as (λ b. (b || (known && goodContact (axisFields axes largest) vs)) ≡ true → (b || unsigned vs) ≡ true) [
+      | true ↦ λ h. refl
+      | false ↦ λ h. contact-unsigned axes largest vs (and-right known _ h)
+    ]) e
+
+rows-plain : (axes : List Axis) (largest : List ℕ) (fr : List (List ℤ)) → goodRows (axisFields axes largest) fr ≡ true → plainRows fr ≡ true
+rows-plain axes largest [] e = refl
+rows-plain axes largest (g ∷ fr) e =
+    let here = goodRow (axisFields axes largest) g in
+    ap₂ (λ c d. c && d) (row-plain axes largest g (and-left here _ e)) (rows-plain axes largest fr (and-right here _ e))
 
 -- Rows that are good for a setup are plain.
-pub good-plain : (u : Setup) (n : ℕ) (f : List ℤ) (at : ℕ) → goodRows (axesOf u) (rowsFrom perSlot n f at) ≡ true → plainRows (rowsFrom perSlot n f at) ≡ true
-unfolding rowsFrom
-good-plain u zero f at g = refl
-good-plain u (suc n) f at g =
-    let v : ℕ → ℤ = λ i. getD f i (pos 0) in
-    let first = and-left (goodRow (axesOf u) (numbersFrom perSlot f at)) _ g in
-    let e = row-plain u (v at) (v (at + 1)) (v (at + 1 + 1)) (v (at + 1 + 1 + 1)) first in
-    let r = good-plain u n f (at + 4) (and-right (goodRow (axesOf u) (numbersFrom perSlot f at)) _ g) in
-    ap₂ (λ a b. a && b) e r
+pub good-plain : (u : Setup) (fr : List (List ℤ)) → goodRows (axesOf u) fr ≡ true → plainRows fr ≡ true
+good-plain u fr e = rows-plain (base .axes) (setupOf u .largest) fr e
 
 -- ---- a slot by its fate
 

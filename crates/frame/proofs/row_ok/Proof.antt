@@ -28,7 +28,7 @@ not-0 c = sym (kind-0 (c .before .before)) ∙ c .before .if1 .left
 kind-12 : (c : tie.After-in-range) → c .in-range .result ≡ (eqZ (kind (start c)) (pos 1) || eqZ (kind (start c)) (pos 2))
 kind-12 c =
     let k = kind (start c) in
-    c .in-range .ensures ∙ ap (betweenZ (pos 0) (pos 2)) (toZ-ofZ w32 k (start c .fits .kind)) ∙ contact-kind k (not-0 c)
+    c .in-range .ensures ∙ ap (betweenZ (pos 1) (pos 2)) (toZ-ofZ w32 k (start c .fits .kind)) ∙ contact-kind k
 
 known : (c : tie.After-in-range) (b : _) → c .in-range .result ≡ b → (eqZ (kind (start c)) (pos 1) || eqZ (kind (start c)) (pos 2)) ≡ b
 known c b e = sym (kind-12 c) ∙ e

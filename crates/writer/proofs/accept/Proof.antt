@@ -5,7 +5,7 @@ use lib.IntN.{ℤ}
 use lib.ListN.{length}
 use Rattle.model.specs.Panel.{perSlot, records}
 use Rattle.model.specs.Frame as F
-use Rattle.model.specs.Frame.{rowsOf}
+use Rattle.model.specs.Frame.{rowsFrom, rowsOf}
 use Rattle.model.proofs.Calls.{length-rowsFrom}
 use Rattle.panel.specs.Seen.{panelSeen, sameFrom}
 use Rattle.panel.proofs.Tables.{unmapped}
@@ -91,7 +91,7 @@ plan-frame-requires : tie.Need-plan-frame-requires
 plan-frame-requires c κs =
     let s = c .before .before .before .before in
     let g = s .pre .state in
-    (good-size (st s) g, good-counter (st s) g, s .pre .size, good-plain (st s .setup) (st s .setup .n) (fr s) 0 (s .pre .values), good-rest (st s) g)
+    (good-size (st s) g, good-counter (st s) g, s .pre .size, good-plain (st s .setup) (rowsFrom perSlot (st s .setup .n) (fr s) 0) (s .pre .values), good-rest (st s) g)
 
 count-changes-requires : tie.Need-count-changes-requires
 count-changes-requires c κs =
