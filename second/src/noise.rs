@@ -131,6 +131,9 @@ fn frames(maker: &mut Maker, setup: Setup, length: usize) -> Vec<u8> {
             let i = maker.random.below(frame.len() as u64) as usize;
             frame[i] = maker.random.word() as i32;
         }
+        if maker.random.once_in(8) {
+            maker.press_least(&mut frame);
+        }
         // A refused frame leaves the writer as it is, in the program too.
         let _ = writer.write(&frame, &mut [0; LARGEST_FRAME], 0);
         bytes.extend(frame.iter().flat_map(|number| number.to_le_bytes()));

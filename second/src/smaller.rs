@@ -180,7 +180,7 @@ fn parts(length: usize, part: usize) -> Vec<std::ops::Range<usize>> {
     }
 }
 
-/// One slot's four numbers plain, or one number 0, of a frame or an image.
+/// One slot's four numbers plain, or one number 0 or 1, of a frame or an image.
 fn smaller_numbers(numbers: &[i32], plain: i32, give: &mut dyn FnMut(Vec<i32>)) {
     for s in 0..numbers.len() / SLOT_NUMBERS {
         let mut fewer = numbers.to_vec();
@@ -188,9 +188,12 @@ fn smaller_numbers(numbers: &[i32], plain: i32, give: &mut dyn FnMut(Vec<i32>)) 
         give(fewer);
     }
     for i in 0..numbers.len() {
-        let mut fewer = numbers.to_vec();
-        fewer[i] = 0;
-        give(fewer);
+        // A contact's pressure cannot be 0.
+        for plain in [0, 1] {
+            let mut fewer = numbers.to_vec();
+            fewer[i] = plain;
+            give(fewer);
+        }
     }
     if numbers.len() % SLOT_NUMBERS != 0 || numbers.len() > SLOTS * SLOT_NUMBERS {
         give(numbers[..numbers.len() - 1].to_vec());

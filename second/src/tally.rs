@@ -4,8 +4,11 @@ use std::collections::BTreeMap;
 
 use crate::events::KNOWN_TYPES;
 use crate::maker::TRIED;
-use crate::script::{is_passed_over, lines_of, BAD_LINE, HEAD_NUMBERS, POD_NUMBERS, READER_NUMBERS, WRITER_NUMBERS};
-use crate::writer::MOST_EVENTS;
+use crate::script::{
+    is_passed_over, lines_of, Call, BAD_LINE, HEAD_NUMBERS, POD_NUMBERS, READER_NUMBERS, WRITER_NUMBERS,
+};
+use crate::table::SLOT_NUMBERS;
+use crate::writer::{Writer, LARGEST_FRAME, MOST_EVENTS};
 
 /// Everything that document 01 lets a call answer, in the words of the tally.
 const EXPECTED: &[&str] = &[
@@ -67,6 +70,11 @@ const EXPECTED: &[&str] = &[
     "write: accepted, no event",
     "write: accepted, some events",
     "write: accepted, 80 events",
+    "write: accepted, a contact of pressure 1",
+    "write: accepted, pressure 0 in kind 0",
+    "write: accepted, a contact of pressure 0 lifts",
+    "write: accepted, a contact of pressure 0 presses",
+    "write: refused for pressure 0 alone",
     "write: no room, a need",
     "write: no room, no need",
     "write: the counter wrapped",
@@ -164,6 +172,9 @@ impl Tally {
             "pod" => answer.split(" / ").for_each(|step| self.count_step(step)),
             _ => self.note(format!("{name} {verdict}")),
         }
+        if let Some(Call::Write { writer, frame, .. }) = Call::parse(line.as_bytes()) {
+            self.count_pressures(verdict, &writer, &frame);
+        }
         match (name, verdict) {
             ("load", "7") => self.note(format!("load: refused while {}", call.mode())),
             ("ask", "unknown") => self.note(format!("ask: unknown while {}", call.mode())),
@@ -234,6 +245,31 @@ impl Tally {
         }
     }
 
+    /// What K8 asks of frames, and what it leaves.
+    fn count_pressures(&mut self, verdict: &str, writer: &Writer, frame: &[i32]) {
+        let rows = || frame.chunks_exact(SLOT_NUMBERS).map(|row| (row[0], row[3]));
+        if verdict == "4" && rows().any(|(kind, pressure)| kind != 0 && pressure == 0) {
+            let pressing: Vec<i32> = frame.chunks_exact(SLOT_NUMBERS).flat_map(with_pressure).collect();
+            if writer.clone().write(&pressing, &mut [0; LARGEST_FRAME], 0).is_ok() {
+                self.note("write: refused for pressure 0 alone".to_string());
+            }
+        }
+        if verdict != "0" {
+            return;
+        }
+        let unpressed = || writer.table.iter().zip(rows()).filter(|(old, _)| old.id.is_live() && old.pressure == 0);
+        for (what, is_there) in [
+            ("a contact of pressure 1", rows().any(|(kind, pressure)| kind != 0 && pressure == 1)),
+            ("pressure 0 in kind 0", rows().any(|row| row == (0, 0))),
+            ("a contact of pressure 0 lifts", unpressed().any(|(_, (kind, _))| kind == 0)),
+            ("a contact of pressure 0 presses", unpressed().any(|(_, (kind, _))| kind != 0)),
+        ] {
+            if is_there {
+                self.note(format!("write: accepted, {what}"));
+            }
+        }
+    }
+
     /// What should have occurred and never did.
     pub fn missing(&self) -> Vec<&'static str> {
         let never = |counted: &BTreeMap<String, u64>, names: &[&'static str]| {
@@ -255,6 +291,13 @@ impl Tally {
         }
         report
     }
+}
+
+/// A row of a frame with pressure 1 where it has 0.
+fn with_pressure(row: &[i32]) -> Vec<i32> {
+    let mut row = row.to_vec();
+    row[3] += i32::from(row[3] == 0);
+    row
 }
 
 /// One row for each first word, with the counts of what comes after it.

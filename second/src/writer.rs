@@ -93,7 +93,8 @@ impl Writer {
                 kind @ (1 | 2) => {
                     let x = in_range(wanted[1], self.setup.largest_x)?;
                     let y = in_range(wanted[2], self.setup.largest_y)?;
-                    let pressure = in_range(wanted[3], self.setup.largest_pressure)?;
+                    // K8: a live finger presses.
+                    let pressure = in_range(wanted[3], self.setup.largest_pressure).filter(|pressure| *pressure > 0)?;
                     let id = if kind == 1 && old.id.is_live() {
                         old.id
                     } else {

@@ -5,8 +5,10 @@ mod common;
 use common::*;
 use second::events::*;
 use second::pod::{Pod, Report};
-use second::reader::{Mode, Ran, Reader};
+use second::reader::{Asked, Mode, Ran, Reader};
 use second::refusal::Refusal;
+use second::table::SlotNumber;
+use second::writer::{Written, LARGEST_FRAME};
 
 /// The answers to a string of bytes from this state, and the state after it.
 fn pod(mut pod: Pod, bytes: &[u8]) -> (Vec<Report>, Pod) {
@@ -122,4 +124,87 @@ fn a_refused_run_skips_nothing() {
     let ragged = [&event(1, 330).to_bytes()[..], &[0]].concat();
     assert_eq!(reader.run(&ragged), Err(Refusal::Ragged));
     assert_eq!(Ran::NOTHING.first_skipped, None);
+}
+
+/// K8: a frame of these two rows after P2, into a buffer of so many bytes.
+fn pressed(first: [i32; 4], second: [i32; 4], size: usize) -> Result<Written, Refusal> {
+    let mut writer = writer(0, 2, &[slot(0, 100, 200, 30), slot(-1, 300, 400, 0)]);
+    let before = writer.clone();
+    let mut buffer = [7; LARGEST_FRAME];
+    let written = writer.write(&[first, second].concat(), &mut buffer[..size], 0);
+    if written.is_err() {
+        assert_eq!((writer, buffer), (before, [7; LARGEST_FRAME]));
+    }
+    written
+}
+
+const GOES_ON: [i32; 4] = [1, 100, 200, 30];
+const NO_CONTACT: [i32; 4] = [0, 0, 0, 0];
+
+/// K8: of kind 1 and 2, beginning and going on, in the first slot and the last; before the room is looked at, and after the count of numbers.
+#[test]
+fn a_contact_of_pressure_0_is_a_bad_value() {
+    for size in [LARGEST_FRAME, 0] {
+        for kind in [1, 2] {
+            assert_eq!(pressed([kind, 100, 200, 0], NO_CONTACT, size), Err(Refusal::Value));
+            assert_eq!(pressed(GOES_ON, [kind, 300, 400, 0], size), Err(Refusal::Value));
+            assert_eq!(pressed(GOES_ON, [kind, 0, 0, 0], size), Err(Refusal::Value));
+        }
+    }
+    let mut writer = writer(0, 2, &[slot(0, 100, 200, 30)]);
+    assert_eq!(writer.write(&[1, 100, 200, 0, 0], &mut [], 0), Err(Refusal::Frame));
+    writer.counter = 65_536;
+    assert_eq!(writer.write(&[1, 100, 200, 0], &mut [], 0), Err(Refusal::State));
+}
+
+/// K8: the least pressure is 1, and the least x and y are 0 as before.
+#[test]
+fn a_contact_of_pressure_1_is_good() {
+    let written = |events, changed| Ok(Written { events, changed });
+    assert_eq!(pressed([1, 100, 200, 1], NO_CONTACT, LARGEST_FRAME), written(2, 0b01));
+    assert_eq!(pressed([2, 0, 0, 1], NO_CONTACT, LARGEST_FRAME), written(5, 0b01));
+    assert_eq!(pressed(GOES_ON, [1, 300, 400, 1], LARGEST_FRAME), written(4, 0b10));
+    // The largest is the least.
+    let mut writer = writer(0, 0, &[slot(-1, 0, 0, 0)]);
+    writer.setup.largest_pressure = 1;
+    assert_eq!(write(&mut writer, &[1, 0, 0, 1]).unwrap().0, ["ID 0", "PRESSURE 1", "REPORT"]);
+}
+
+/// K8: no contact has no pressure to be judged.
+#[test]
+fn pressure_0_in_kind_0_is_not_judged() {
+    assert_eq!(pressed(GOES_ON, NO_CONTACT, 0), Ok(Written::ZEROS));
+    assert_eq!(pressed([0, 100, 200, 0], NO_CONTACT, LARGEST_FRAME), Ok(Written { events: 2, changed: 1 }));
+}
+
+/// K8: a writer's table may hold what older ones had. Such a contact can lift, begin anew or press, but not go on with 0.
+#[test]
+fn a_live_slot_of_pressure_0_is_well_formed() {
+    let old = writer(0, 6, &[slot(5, 100, 200, 0)]);
+    assert!(old.is_well_formed());
+    for (frame, sent, after) in [
+        ([0, 100, 200, 0], &["ID -1", "REPORT"][..], slot(-1, 100, 200, 0)),
+        ([1, 100, 200, 1], &["PRESSURE 1", "REPORT"], slot(5, 100, 200, 1)),
+        ([2, 100, 200, 9], &["ID 6", "PRESSURE 9", "REPORT"], slot(6, 100, 200, 9)),
+    ] {
+        let mut writer = old.clone();
+        assert_eq!(write(&mut writer, &frame).unwrap().0, sent);
+        assert_eq!(writer.table[0], after);
+    }
+    for kind in [1, 2] {
+        assert_eq!(write(&mut old.clone(), &[kind, 100, 200, 0]), Err(Refusal::Value));
+    }
+}
+
+/// K8: records, loads and questions take pressure 0 as before.
+#[test]
+fn a_reader_takes_pressure_0() {
+    let mut reader = following(0, &[slot(5, 100, 200, 30)]);
+    let none = bytes(&[Event::abs(ABS_MT_PRESSURE, 0), Event::REPORT]);
+    assert_eq!(reader.run(&none), Ok(Ran { shown: 1, ..Ran::NOTHING }));
+    assert_eq!(reader, following(0, &[slot(5, 100, 200, 0)]));
+    let mut stale = Reader { mode: Mode::Stale, ..reader.clone() };
+    assert_eq!(stale.load(&[5, 100, 200, 0], SlotNumber(0)), Ok(()));
+    assert_eq!(stale, reader);
+    assert_eq!(reader.ask(SlotNumber(0)), Ok(Asked::Contact(slot(5, 100, 200, 0))));
 }

@@ -39,7 +39,7 @@ fn check(output: &Output, status: i32, err: &str) {
 fn accepted_and_refused() {
     let _turn = turn();
     let run = |program: &str, bytes: &[u8]| output(&mut second(&[program]), bytes).status.code();
-    let frame = |kind: u8| [&SETUP[..], &[kind, 0, 0, 0], &[0; 12]].concat();
+    let frame = |kind: u8| [&SETUP[..], &[kind, 0, 0, 0], &[0; 8], &[1, 0, 0, 0]].concat();
     assert_eq!(run("show_table", &SETUP), Some(0));
     assert_eq!(run("show_table", &SETUP[..15]), Some(1));
     assert_eq!(run("write_frames", &frame(1)), Some(0));

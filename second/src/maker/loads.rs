@@ -2,9 +2,9 @@
 
 use super::numbers::limits;
 use super::Maker;
-use crate::reader::Mode;
+use crate::reader::{Mode, Reader};
 use crate::script::Call;
-use crate::table::{Setup, SlotNumber, SLOT_NUMBERS};
+use crate::table::{Setup, SlotNumber, TrackingId, LARGEST_ID, SLOT_NUMBERS};
 
 impl Maker {
     pub(super) fn load(&mut self) -> Call {
@@ -112,8 +112,21 @@ impl Maker {
             self.random.below(n)
         };
         if self.random.once_in(6) {
+            self.end_id(&mut reader, slot);
+        }
+        if self.random.once_in(6) {
             self.break_reader(&mut reader);
         }
         Call::Ask { reader, slot: SlotNumber(slot) }
+    }
+
+    /// The slot's contact gets an id at an end of the range, which chance alone gives rarely.
+    fn end_id(&mut self, reader: &mut Reader, slot: u64) {
+        let id = TrackingId(self.random.pick(&[0, LARGEST_ID as i32]));
+        if slot < reader.setup.slots && reader.shown.iter().all(|other| other.id != id) {
+            self.tag("ask: id 0 or 65,535");
+            reader.shown[slot as usize].id = id;
+            reader.pending = reader.shown;
+        }
     }
 }

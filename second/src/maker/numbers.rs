@@ -108,6 +108,11 @@ impl Maker {
         }
     }
 
+    /// The pressure of a contact in a frame: 1 to `largest`, often 1.
+    pub(super) fn pressing(&mut self, largest: u32) -> u32 {
+        self.number(largest).max(1)
+    }
+
     /// Another number in the range, often the next one or one that differs in a bit alone.
     pub(super) fn other_number(&mut self, old: u32, largest: u32) -> u32 {
         let one_bit: Vec<u32> = (0..15).map(|bit| old ^ 1 << bit).filter(|other| *other <= largest).collect();

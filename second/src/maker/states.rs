@@ -28,7 +28,13 @@ impl Maker {
     fn any_writer(&mut self) -> Writer {
         let setup = self.setup();
         let ids = self.ids();
-        let table = self.any_table(&setup, ids);
+        let mut table = self.any_table(&setup, ids);
+        // Where contacts press with 0, as older tables have it, no frame leaves the table as it is.
+        if !self.random.once_in(3) {
+            for slot in table.iter_mut().filter(|slot| slot.id.is_live() && slot.pressure == 0) {
+                slot.pressure = self.pressing(setup.largest_pressure);
+            }
+        }
         let current = SlotNumber(self.random.below(setup.slots));
         Writer { setup, current, counter: self.counter(ids, &table), table }
     }

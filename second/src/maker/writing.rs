@@ -7,6 +7,13 @@ use crate::script::{Call, LARGEST_BUFFER};
 use crate::table::{Setup, SLOTS, SLOT_NUMBERS};
 use crate::writer::{Writer, LARGEST_FRAME};
 
+/// What [`Maker::press_least`] tries, by kind and pressure.
+const LEAST: [[&str; 2]; 3] = [
+    ["frame: kind 0, pressure 0", "frame: kind 0, pressure 1"],
+    ["frame: kind 1, pressure 0", "frame: kind 1, pressure 1"],
+    ["frame: kind 2, pressure 0", "frame: kind 2, pressure 1"],
+];
+
 impl Maker {
     pub(super) fn write(&mut self) -> Call {
         let (which, mut writer) = self.writer();
@@ -15,6 +22,9 @@ impl Maker {
             self.break_writer(&mut writer);
         }
         let mut frame = self.frame(&writer);
+        if self.random.once_in(6) {
+            self.press_least(&mut frame);
+        }
         if self.random.once_in(6) {
             self.break_frame(&writer, &mut frame);
         }
@@ -97,6 +107,7 @@ impl Maker {
                 }
             }
         }
+        self.press(&setup, &mut frame);
         if self.random.once_in(2) {
             for wanted in frame.chunks_exact_mut(SLOT_NUMBERS) {
                 if wanted[0] == 0 {
@@ -108,6 +119,30 @@ impl Maker {
             }
         }
         frame
+    }
+
+    /// A contact that would press with 0 presses, or lifts.
+    fn press(&mut self, setup: &Setup, frame: &mut [i32]) {
+        for wanted in frame.chunks_exact_mut(SLOT_NUMBERS) {
+            if wanted[0] != 0 && wanted[3] == 0 {
+                if self.random.once_in(4) {
+                    wanted[0] = 0;
+                } else {
+                    wanted[3] = self.pressing(setup.largest_pressure) as i32;
+                }
+            }
+        }
+    }
+
+    /// The least that a contact may press with, and less: pressure 1 and 0, in rows of each kind.
+    pub(crate) fn press_least(&mut self, frame: &mut [i32]) {
+        let rows = frame.len() / SLOT_NUMBERS;
+        for _ in 0..self.random.pick(&[1, 1, 1, 2, 3]).min(rows) {
+            let s = SLOT_NUMBERS * self.random.below(rows as u64) as usize;
+            let (kind, pressure) = (self.random.below(3) as usize, self.random.below(2) as usize);
+            self.tag(LEAST[kind][pressure]);
+            (frame[s], frame[s + 3]) = (kind as i32, pressure as i32);
+        }
     }
 
     fn change_number(&mut self, setup: &Setup, wanted: &mut [i32]) {

@@ -173,7 +173,7 @@ const SENT: &str = "write_frames: input was lost, so SYN_DROPPED was sent\n";
 
 #[test]
 fn frames_good_refused_and_cut() {
-    let text = "SETUP 1 9 9 9\nFRAME 1 1 2 3\nFRAME 3 0 0 0\nFRAME 1 10 0 0\nFRAME 1 1 2 4\nFRAME 0 -7 0 0\n";
+    let text = "SETUP 1 9 9 9\nFRAME 1 1 2 3\nFRAME 3 0 0 0\nFRAME 1 1 2 0\nFRAME 1 1 2 4\nFRAME 0 -7 0 0\n";
     let out = "SETUP 1 9 9 9\nID 0\nX 1\nY 2\nPRESSURE 3\nREPORT\nPRESSURE 4\nREPORT\nID -1\nREPORT\n";
     let err = "frame 2 refused 4\nframe 3 refused 4\n";
     assert_eq!(frames(text, false), strings(Refused, out, err));
@@ -254,11 +254,11 @@ fn a_slow_input_is_answered_as_it_comes() {
     };
     talk("show_pod", &[(b"\x01\xF8", b""), (b"\0\0", b"down 1\n")], b"down 1\nrelative 0 0 0 0\n");
     talk("drive", &[(b"start\nsta", b""), (b"rt\n", b"1 0 0 0 0 0 0\n")], b"1 0 0 0 0 0 0\n1 0 0 0 0 0 0\n");
-    let input = encoded("SETUP 1 9 9 9\nFRAME 1 0 0 0\nFRAME 0 0 0 0\n");
-    let output = encoded("SETUP 1 9 9 9\nID 0\nREPORT\nID -1\nREPORT\n");
+    let input = encoded("SETUP 1 9 9 9\nFRAME 1 0 0 1\nFRAME 0 0 0 0\n");
+    let output = encoded("SETUP 1 9 9 9\nID 0\nPRESSURE 1\nREPORT\nID -1\nREPORT\n");
     talk(
         "write_frames",
-        &[(&input[..16], b""), (&input[16..40], &output[..16]), (&input[40..], &output[..32])],
+        &[(&input[..16], b""), (&input[16..40], &output[..16]), (&input[40..], &output[..40])],
         &output,
     );
 }
@@ -267,7 +267,7 @@ fn a_slow_input_is_answered_as_it_comes() {
 fn a_failed_write_is_said_and_ends_the_program() {
     for (program, bytes) in [
         ("show_table", encoded("SETUP 1 9 9 9\n")),
-        ("write_frames", encoded("SETUP 1 9 9 9\nFRAME 1 0 0 0\nFRAME 3 0 0 0\n")),
+        ("write_frames", encoded("SETUP 1 9 9 9\nFRAME 1 0 0 1\nFRAME 3 0 0 0\n")),
         ("show_pod", vec![1; 20]),
         ("drive", b"start\nstart\nstart\n".to_vec()),
     ] {
@@ -287,10 +287,10 @@ fn a_failed_write_is_said_and_ends_the_program() {
 
 #[test]
 fn words_that_nobody_takes_count_as_a_failure_and_leave_no_hole() {
-    let bytes = encoded("SETUP 1 9 9 9\nFRAME 3 0 0 0\nFRAME 1 0 0 0\n");
+    let bytes = encoded("SETUP 1 9 9 9\nFRAME 1 0 0 0\nFRAME 1 0 0 1\n");
     let mut out = Vec::new();
     assert_eq!(write_frames(&bytes[..], &mut out, Full { taken: Vec::new(), room: 5 }), Failed);
-    assert_eq!(decoded(&out, false), "SETUP 1 9 9 9\nID 0\nREPORT\n");
+    assert_eq!(decoded(&out, false), "SETUP 1 9 9 9\nID 0\nPRESSURE 1\nREPORT\n");
 }
 
 /// More than a buffer, whose end falls inside records, frames and reports.

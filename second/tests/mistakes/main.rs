@@ -7,6 +7,7 @@ mod lines;
 mod loads;
 mod losses;
 mod pods;
+mod pressures;
 mod records;
 mod sent;
 mod skips;
@@ -95,6 +96,11 @@ fn of_loads_and_questions() {
 #[test]
 fn of_frames_and_room() {
     all_are_noticed("frames", frames::all());
+}
+
+#[test]
+fn of_pressures() {
+    all_are_noticed("pressures", pressures::all());
 }
 
 #[test]

@@ -109,8 +109,20 @@ pub fn writes(name: impl Into<String>, change: impl Fn(&mut Parts)) -> Wrong {
     })
 }
 
+/// A writer that takes frames that are to be refused with 4.
+pub fn accepts(name: impl Into<String>, when: impl Fn(&Writer, &[i32]) -> bool + 'static) -> Wrong {
+    answers(name, move |asked| {
+        let Call::Write { writer, position, size, frame } = asked.call? else {
+            return None;
+        };
+        let is_taken = refusal(asked.right, asked.call?) == 4 && when(writer, frame);
+        is_taken.then(|| RIGHT.answer(writer, *position, *size, frame))
+    })
+}
+
 impl Parts {
-    fn answer(&self, writer: &Writer, position: u64, size: usize, frame: &[i32]) -> String {
+    /// Its answer to a frame that is refused by none of 2, 3 and 4.
+    pub fn answer(&self, writer: &Writer, position: u64, size: usize, frame: &[i32]) -> String {
         let after = self.table(writer, frame);
         let is_changed = |s: &usize| after.table[*s] != writer.table[*s];
         let changed: Vec<usize> = (0..writer.setup.slots as usize).filter(is_changed).collect();
