@@ -106,6 +106,30 @@ fn counter_case(page: &mut [u8], out: Out) -> Out {
     say_written(page, out, b"counter 7", a, &buf)
 }
 
+// K8: a frame of one row for a writer of one slot whose contact, of an older table, has pressure 0.
+fn pressure_case(page: &mut [u8], out: Out, name: &[u8], kind: i32, pressure: i32) -> Out {
+    let fresh = WriterState::fresh(1, LARGEST, LARGEST, HARDEST);
+    let mut state = fresh.state;
+    state.table[0] = Slot {
+        id: TrackingId(0),
+        x: 0,
+        y: 200,
+        pressure: 0,
+    };
+    state.counter = 1;
+    let frame = [kind, 0, 200, pressure];
+    let mut buf = [FILLED; 16];
+    let a = writer::write(state, &frame, &mut buf, 0);
+    say_written(page, out, name, a, &buf)
+}
+
+fn pressure_cases(page: &mut [u8], out: Out) -> Out {
+    let a = pressure_case(page, out, b"kind 1, pressure 0", 1, 0);
+    let b = pressure_case(page, a, b"kind 2, pressure 0", 2, 0);
+    let c = pressure_case(page, b, b"kind 1, pressure 1", 1, 1);
+    pressure_case(page, c, b"kind 0, pressure 0", 0, 0)
+}
+
 fn after_p1() -> WriterState {
     let fresh = WriterState::fresh(2, LARGEST, LARGEST, HARDEST);
     let first = fresh.state;
@@ -237,7 +261,8 @@ fn answer(page: &mut [u8], out: Out) -> Out {
     let a = counter_case(page, out);
     let b = pod_cases(page, a);
     let c = room_cases(page, b);
-    setup_cases(page, c)
+    let d = pressure_cases(page, c);
+    setup_cases(page, d)
 }
 
 fn main() {
