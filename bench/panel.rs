@@ -2,7 +2,14 @@
 
 pub const RECORDS: usize = 16;
 
-/// Four numbers, laid out as a host's C code has them. The id is -1 where the slot is unused.
+/// How many numbers a slot has.
+pub const PER_SLOT: usize = 6;
+
+/// The most events of a frame, which the reader does not ask.
+#[allow(dead_code)]
+pub const MOST_EVENTS: usize = PER_SLOT * RECORDS + RECORDS;
+
+/// Six numbers, laid out as a host's C code has them. The id is -1 where the slot is unused.
 #[repr(C)]
 #[derive(Clone, Copy, PartialEq, Debug)]
 pub struct Slot {
@@ -10,12 +17,14 @@ pub struct Slot {
     pub x: u32,
     pub y: u32,
     pub pressure: u32,
+    pub major: u32,
+    pub minor: u32,
 }
 
 pub type Table = [Slot; RECORDS];
 
-pub const UNUSED: Slot = Slot { id: -1, x: 0, y: 0, pressure: 0 };
-pub const ZERO: Slot = Slot { id: 0, x: 0, y: 0, pressure: 0 };
+pub const UNUSED: Slot = Slot { id: -1, x: 0, y: 0, pressure: 0, major: 0, minor: 0 };
+pub const ZERO: Slot = Slot { id: 0, x: 0, y: 0, pressure: 0, major: 0, minor: 0 };
 
 #[repr(C)]
 #[derive(Clone, Copy, PartialEq, Debug)]
@@ -24,29 +33,48 @@ pub struct Setup {
     pub x: u32,
     pub y: u32,
     pub pressure: u32,
+    pub major: u32,
+    pub minor: u32,
+}
+
+impl Slot {
+    /// A row's numbers; its first one, an id or a kind, stands as the id.
+    pub fn of(row: &[i32]) -> Slot {
+        Slot {
+            id: row[0],
+            x: row[1] as u32,
+            y: row[2] as u32,
+            pressure: row[3] as u32,
+            major: row[4] as u32,
+            minor: row[5] as u32,
+        }
+    }
 }
 
 impl Setup {
-    pub const ZERO: Setup = Setup { n: 0, x: 0, y: 0, pressure: 0 };
+    pub const ZERO: Setup = Setup { n: 0, x: 0, y: 0, pressure: 0, major: 0, minor: 0 };
 
     pub fn ok(&self) -> bool {
         (1..=RECORDS as u32).contains(&self.n)
             && (1..=32767).contains(&self.x)
             && (1..=32767).contains(&self.y)
             && (1..=255).contains(&self.pressure)
-    }
-
-    fn numbers_ok(&self, x: u32, y: u32, pressure: u32) -> bool {
-        x <= self.x && y <= self.y && pressure <= self.pressure
+            && (1..=255).contains(&self.major)
+            && (1..=255).contains(&self.minor)
     }
 
     /// Whether a frame may give a contact these numbers.
-    pub fn contact_ok(&self, x: u32, y: u32, pressure: u32) -> bool {
-        pressure >= 1 && self.numbers_ok(x, y, pressure)
+    #[allow(dead_code)] // the reader judges no frames
+    pub fn contact_ok(&self, s: &Slot) -> bool {
+        s.pressure >= 1 && self.numbers_ok(s)
+    }
+
+    fn numbers_ok(&self, s: &Slot) -> bool {
+        s.x <= self.x && s.y <= self.y && s.pressure <= self.pressure && s.major <= self.major && s.minor <= self.minor
     }
 
     fn slot_ok(&self, s: &Slot) -> bool {
-        (-1..=65535).contains(&s.id) && self.numbers_ok(s.x, s.y, s.pressure)
+        (-1..=65535).contains(&s.id) && self.numbers_ok(s)
     }
 
     /// Whether the first n slots are in their ranges and the others unused. The setup itself is good.

@@ -1,9 +1,9 @@
-//! Whether all versions of the reader answer the same: the state's 536 bytes, the verdict, every count and all that is told of a slot.
+//! Whether all versions of the reader answer the same: the state's 800 bytes, the verdict, every count and all that is told of a slot.
 
 use crate::calls::{agreed, Noise, Verdicts};
 use crate::loads::{record, records, start, LOADS};
 use crate::measure::SIZES;
-use crate::panel::{Setup, Slot, ZERO};
+use crate::panel::{Setup, Slot, PER_SLOT, RECORDS, ZERO};
 use crate::state::{Counts, State, Told, DROPPED, EMPTY, STALE};
 use crate::version::Version;
 use crate::VERSIONS;
@@ -12,7 +12,7 @@ const RANDOM_CALLS: usize = 20_000;
 
 #[derive(Clone, Debug)]
 enum Call {
-    Fresh([u32; 4]),
+    Fresh([u32; 6]),
     Run(Vec<u8>),
     ReadOne(u16, u16, u32),
     Load(Vec<i32>, usize),
@@ -28,16 +28,16 @@ struct Answer {
 }
 
 // What stands in an answer's place before a call that tells it, so that a number that is not told shows; and zeros.
-const UNTOLD: (Counts, Told) = (
-    Counts::all(77),
-    Told { kind: 77, slot: Slot { id: 77, x: 77, y: 77, pressure: 77 } },
-);
+const UNTOLD: (Counts, Told) =
+    (Counts::all(77), Told { kind: 77, slot: Slot { id: 77, x: 77, y: 77, pressure: 77, major: 77, minor: 77 } });
 const ZEROS: (Counts, Told) = (Counts::all(0), Told { kind: EMPTY, slot: ZERO });
 
 fn answer_of(version: &Version, state: &State, call: &Call) -> Answer {
     let (mut state, mut counts, mut told) = (*state, ZEROS.0, ZEROS.1);
     let verdict = match call {
-        &Call::Fresh([n, x, y, pressure]) => version.fresh(&mut state, Setup { n, x, y, pressure }),
+        &Call::Fresh([n, x, y, pressure, major, minor]) => {
+            version.fresh(&mut state, Setup { n, x, y, pressure, major, minor })
+        }
         Call::Run(bytes) => {
             counts = UNTOLD.0;
             version.run(&mut state, bytes, &mut counts)
@@ -77,7 +77,7 @@ fn over_loads(verdicts: &mut Verdicts) -> Result<(), String> {
             let (kind, code) = (u16::from_le_bytes([r[0], r[1]]), u16::from_le_bytes([r[2], r[3]]));
             let one = Call::ReadOne(kind, code, u32::from_le_bytes([r[4], r[5], r[6], r[7]]));
             state = answer(&state, &one, verdicts)?.state;
-            answer(&state, &Call::Ask(k % 17), verdicts)?;
+            answer(&state, &Call::Ask(k % (RECORDS + 1)), verdicts)?;
         }
         if whole.verdict != 0 || whole.state != state {
             return Err(format!("load {load}, n {n}: one run ends as {whole:?}, record by record as {state:?}"));
@@ -87,20 +87,23 @@ fn over_loads(verdicts: &mut Verdicts) -> Result<(), String> {
 }
 
 /// What makes a state of four slots in contact not well formed.
-const DAMAGE: [fn(&mut State); 18] = [
+const DAMAGE: [fn(&mut State); 21] = [
     |s| s.setup.n = 0,
-    |s| s.setup.n = 17,
+    |s| s.setup.n = RECORDS as u32 + 1,
     |s| s.setup.x = 0,
     |s| s.setup.y = 32768,
     |s| s.setup.pressure = 256,
+    |s| s.setup.major = 0,
+    |s| s.setup.minor = 256,
     |s| s.shown[0].id = -2,
     |s| s.pending[0].id = 65536,
     |s| s.shown[1].x = 4001,
     |s| s.pending[1].x = u32::MAX,
     |s| s.shown[2].y = 4001,
     |s| s.pending[3].pressure = 256,
+    |s| s.shown[3].minor = 256,
     |s| s.shown[4].id = 9,
-    |s| s.pending[15].pressure = 1,
+    |s| s.pending[RECORDS - 1].pressure = 1,
     |s| s.shown[0].id = s.shown[3].id,
     |s| s.current = s.setup.n,
     |s| s.mode = 3,
@@ -109,17 +112,19 @@ const DAMAGE: [fn(&mut State); 18] = [
 ];
 
 /// What is done to a good image of four slots, and its current slot, that makes it a bad one.
-const BAD_IMAGE: [fn(&mut Vec<i32>, &mut usize); 11] = [
-    |image, _| image.truncate(15),
+const BAD_IMAGE: [fn(&mut Vec<i32>, &mut usize); 13] = [
+    |image, _| image.truncate(23),
     |image, _| image.push(0),
     |image, _| image.clear(),
     |image, _| image[0] = -2,
     |image, _| image[0] = 65536,
-    |image, _| image[5] = -1,
-    |image, _| image[5] = 4001,
-    |image, _| image[10] = i32::MIN,
-    |image, _| image[15] = 256,
-    |image, _| image[0] = image[4],
+    |image, _| image[7] = -1,
+    |image, _| image[7] = 4001,
+    |image, _| image[14] = i32::MIN,
+    |image, _| image[21] = 256,
+    |image, _| image[22] = 256,
+    |image, _| image[23] = -1,
+    |image, _| image[0] = image[6],
     |_, current| *current = 4,
 ];
 
@@ -132,9 +137,11 @@ fn refused(number: u64, state: &State, call: Call, verdicts: &mut Verdicts) -> R
 
 fn over_refusals(verdicts: &mut Verdicts) -> Result<(), String> {
     let good = start(4);
-    let (image, bytes) = (vec![5, 1, 2, 3, 6, 4, 5, 6, -1, 7, 8, 9, 7, 0, 0, 0], records("one", 4));
-    for (k, bad) in [0, 17, 0, 32768, 0, 32768, 0, 256].into_iter().enumerate() {
-        let mut given = [1; 4];
+    let image = vec![5, 1, 2, 3, 4, 5, 6, 4, 5, 6, 7, 8, -1, 7, 8, 9, 10, 11, 7, 0, 0, 0, 0, 0];
+    let bytes = records("one", 4);
+    let bad = [0, RECORDS as u32 + 1, 0, 32768, 0, 32768, 0, 256, 0, 256, 0, 256];
+    for (k, bad) in bad.into_iter().enumerate() {
+        let mut given = [1; 6];
         given[k / 2] = bad;
         refused(1, &good, Call::Fresh(given), verdicts)?;
     }
@@ -166,11 +173,11 @@ fn random_records(n: u32, noise: &mut Noise) -> Vec<u8> {
         let value = if noise.one_in(60) { edge } else { noise.below(2 * n) };
         match noise.below(40) {
             0 => record(0, 3, value),
-            1 => record(noise.pick(&[0, 1, 3, 4]), noise.pick(&[0, 2, 0x30, 0xffff]), value),
+            1 => record(noise.pick(&[0, 1, 3, 4]), noise.pick(&[0, 2, 0x32, 0xffff]), value),
             2..=9 => record(0, 0, value),
             10..=14 => record(3, 0x2f, value % n),
             15 => record(3, 0x39, u32::MAX),
-            _ => record(3, noise.pick(&[0x35, 0x36, 0x3a, 0x35, 0x36, 0x39]), value),
+            _ => record(3, noise.pick(&[0x35, 0x36, 0x3a, 0x30, 0x31, 0x39]), value),
         }
     };
     (0..30).flat_map(&mut one).collect()
@@ -182,8 +189,11 @@ fn over_noise(verdicts: &mut Verdicts) -> Result<(), String> {
     for _ in 0..RANDOM_CALLS {
         let n = state.setup.n;
         let call = match noise.below(8) {
-            0 => Call::Ask(noise.below(18) as usize),
-            1 => Call::Load((0..4 * n).map(|_| noise.below(40) as i32 - 1).collect(), noise.below(n + 1) as usize),
+            0 => Call::Ask(noise.below(RECORDS as u32 + 2) as usize),
+            1 => Call::Load(
+                (0..PER_SLOT as u32 * n).map(|_| noise.below(40) as i32 - 1).collect(),
+                noise.below(n + 1) as usize,
+            ),
             _ => Call::Run(random_records(n, &mut noise)),
         };
         let mut given = state;
@@ -195,7 +205,7 @@ fn over_noise(verdicts: &mut Verdicts) -> Result<(), String> {
             state = came.state;
         }
         if noise.one_in(6) {
-            state = start(1 + noise.below(16));
+            state = start(1 + noise.below(RECORDS as u32));
         }
     }
     Ok(())

@@ -25,7 +25,9 @@ fn absolute(state: &mut State, code: u16, value: i32, counts: &mut Counts) -> bo
         0x35 if within(setup.x) => slot.x = value as u32,
         0x36 if within(setup.y) => slot.y = value as u32,
         0x3a if within(setup.pressure) => slot.pressure = value as u32,
-        0x2f | 0x39 | 0x35 | 0x36 | 0x3a => return false,
+        0x30 if within(setup.major) => slot.major = value as u32,
+        0x31 if within(setup.minor) => slot.minor = value as u32,
+        0x2f | 0x39 | 0x35 | 0x36 | 0x3a | 0x30 | 0x31 => return false,
         _ => counts.skip(3, code),
     }
     true

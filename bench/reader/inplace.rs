@@ -12,6 +12,8 @@ const X: u32 = 0x35_0003;
 const Y: u32 = 0x36_0003;
 const ID: u32 = 0x39_0003;
 const PRESSURE: u32 = 0x3a_0003;
+const MAJOR: u32 = 0x30_0003;
+const MINOR: u32 = 0x31_0003;
 
 /// What ends following.
 enum Lost {
@@ -36,6 +38,8 @@ impl State {
                 X if value <= self.setup.x => slot.x = value,
                 Y if value <= self.setup.y => slot.y = value,
                 PRESSURE if value <= self.setup.pressure => slot.pressure = value,
+                MAJOR if value <= self.setup.major => slot.major = value,
+                MINOR if value <= self.setup.minor => slot.minor = value,
                 ID if value <= 65535 || value == u32::MAX => {
                     slot.id = value as i32;
                     ids_tested = false;
@@ -53,7 +57,7 @@ impl State {
                     lost = Some((Lost::Dropped, k));
                     break;
                 }
-                SLOT | X | Y | PRESSURE | ID => {
+                SLOT | X | Y | PRESSURE | MAJOR | MINOR | ID => {
                     lost = Some((Lost::BadValue, k));
                     break;
                 }

@@ -3,7 +3,7 @@
 use crate::panel::{Setup, Slot, Table, RECORDS, UNUSED};
 use crate::state::State;
 
-/// What comes before each report: x and y of one slot, another one each time; x, y and pressure of every slot; no report comes at all; another contact in one slot.
+/// What comes before each report: x and y of one slot, another one each time; every number but the id of every slot; no report comes at all; another contact in one slot.
 pub const LOADS: [&str; 4] = ["one", "all", "none", "ids"];
 
 const FRAMES: u32 = 100;
@@ -12,9 +12,9 @@ const FRAMES: u32 = 100;
 pub fn start(n: u32) -> State {
     let mut table: Table = [UNUSED; RECORDS];
     for (s, slot) in table.iter_mut().enumerate().take(n as usize) {
-        *slot = Slot { id: s as i32, x: 10, y: 20, pressure: 30 };
+        *slot = Slot { id: s as i32, x: 10, y: 20, pressure: 30, major: 80, minor: 40 };
     }
-    State::with(Setup { n, x: 4000, y: 4000, pressure: 255 }, table)
+    State::with(Setup { n, x: 4000, y: 4000, pressure: 255, major: 255, minor: 255 }, table)
 }
 
 pub fn record(kind: u16, code: u16, value: u32) -> [u8; 8] {
@@ -30,7 +30,17 @@ fn frame(load: &str, n: u32, f: u32) -> Vec<u8> {
     let mut frame = match load {
         "one" => vec![abs(0x2f, f % n), abs(0x35, f), abs(0x36, f)],
         "all" => (0..n)
-            .flat_map(|s| [abs(0x2f, (f + s) % n), abs(0x35, f + s), abs(0x36, f + 2 * s), abs(0x3a, (f + s) % 256)])
+            .flat_map(|s| {
+                let small = (f + s) % 256;
+                [
+                    abs(0x2f, (f + s) % n),
+                    abs(0x35, f + s),
+                    abs(0x36, f + 2 * s),
+                    abs(0x3a, small),
+                    abs(0x30, small),
+                    abs(0x31, small),
+                ]
+            })
             .collect(),
         "ids" => vec![abs(0x2f, f % n), abs(0x39, n + f), abs(0x35, f)],
         _ => return [abs(0x35, f), abs(0x36, f), abs(0x35, f + 1), abs(0x36, f + 1)].concat(),

@@ -18,7 +18,7 @@ use std::hint::black_box;
 use version::{in_rust, Version};
 
 extern "C" {
-    fn rattle_fresh(state: &mut State, n: u32, x: u32, y: u32, pressure: u32) -> u64;
+    fn rattle_fresh(state: &mut State, n: u32, x: u32, y: u32, pressure: u32, major: u32, minor: u32) -> u64;
     fn rattle_run(state: &mut State, bytes: *const u8, len: usize, counts: &mut Counts) -> u64;
     fn rattle_read_one(state: &mut State, kind: u16, code: u16, value: u32, counts: &mut Counts) -> u64;
     fn rattle_load(state: &mut State, image: *const i32, numbers: usize, current: usize) -> u64;

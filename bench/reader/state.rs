@@ -1,6 +1,6 @@
-//! The reader's state as each version is handed it, 536 bytes that the host keeps, and the calls that all versions in Rust share: fresh, load and ask.
+//! The reader's state as each version is handed it, 800 bytes that the host keeps, and the calls that all versions in Rust share: fresh, load and ask.
 
-use crate::panel::{ids_differ, Setup, Slot, Table, RECORDS, UNUSED, ZERO};
+use crate::panel::{ids_differ, Setup, Slot, Table, PER_SLOT, RECORDS, UNUSED, ZERO};
 
 pub const FOLLOWING: u32 = 0;
 pub const DROPPED: u32 = 1;
@@ -90,11 +90,11 @@ impl State {
             return 7;
         }
         let mut table = [UNUSED; RECORDS];
-        for (slot, row) in table.iter_mut().zip(image.chunks_exact(4)) {
-            *slot = Slot { id: row[0], x: row[1] as u32, y: row[2] as u32, pressure: row[3] as u32 };
+        for (slot, row) in table.iter_mut().zip(image.chunks_exact(PER_SLOT)) {
+            *slot = Slot::of(row);
         }
         let n = self.setup.n as usize;
-        if image.len() != 4 * n || current >= n || !self.setup.table_ok(&table) || !ids_differ(&table) {
+        if image.len() != PER_SLOT * n || current >= n || !self.setup.table_ok(&table) || !ids_differ(&table) {
             return 8;
         }
         *self = State { current: current as u32, ..State::with(self.setup, table) };

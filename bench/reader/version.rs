@@ -8,7 +8,7 @@ use std::slice::from_raw_parts;
 /// Each call answers the verdict's number.
 pub struct Version {
     pub name: &'static str,
-    pub fresh: unsafe extern "C" fn(&mut State, u32, u32, u32, u32) -> u64,
+    pub fresh: unsafe extern "C" fn(&mut State, u32, u32, u32, u32, u32, u32) -> u64,
     pub run: unsafe extern "C" fn(&mut State, *const u8, usize, &mut Counts) -> u64,
     pub read_one: unsafe extern "C" fn(&mut State, u16, u16, u32, &mut Counts) -> u64,
     pub load: unsafe extern "C" fn(&mut State, *const i32, usize, usize) -> u64,
@@ -18,7 +18,8 @@ pub struct Version {
 // SAFETY of all calls: the slices are whole, and no version reads past them.
 impl Version {
     pub fn fresh(&self, state: &mut State, setup: Setup) -> u64 {
-        unsafe { (self.fresh)(state, setup.n, setup.x, setup.y, setup.pressure) }
+        let Setup { n, x, y, pressure, major, minor } = setup;
+        unsafe { (self.fresh)(state, n, x, y, pressure, major, minor) }
     }
 
     pub fn run(&self, state: &mut State, bytes: &[u8], counts: &mut Counts) -> u64 {
@@ -48,8 +49,8 @@ pub const fn in_rust<R: Reader>(name: &'static str) -> Version {
     Version { name, fresh, run: run::<R>, read_one: read_one::<R>, load, ask }
 }
 
-unsafe extern "C" fn fresh(state: &mut State, n: u32, x: u32, y: u32, pressure: u32) -> u64 {
-    let (verdict, fresh) = State::fresh(Setup { n, x, y, pressure });
+unsafe extern "C" fn fresh(state: &mut State, n: u32, x: u32, y: u32, pressure: u32, major: u32, minor: u32) -> u64 {
+    let (verdict, fresh) = State::fresh(Setup { n, x, y, pressure, major, minor });
     *state = fresh;
     verdict
 }

@@ -1,6 +1,6 @@
 //! The writer in plain Rust that copies, in the steps of the proved one: a state comes in by value and goes out by value, and a whole new table is planned beside the old one.
 
-use crate::panel::{Setup, Slot, Table, RECORDS};
+use crate::panel::{Setup, Slot, Table, PER_SLOT, RECORDS};
 use crate::state::State;
 use crate::version::{Refused, Sent, Writer};
 
@@ -10,9 +10,9 @@ struct Written {
 }
 
 fn values_ok(setup: &Setup, frame: &[i32]) -> bool {
-    frame.chunks_exact(4).all(|row| match row[0] {
+    frame.chunks_exact(PER_SLOT).all(|row| match row[0] {
         0 => true,
-        1 | 2 => setup.contact_ok(row[1] as u32, row[2] as u32, row[3] as u32),
+        1 | 2 => setup.contact_ok(&Slot::of(row)),
         _ => false,
     })
 }
@@ -35,7 +35,7 @@ fn plan(state: &State, frame: &[i32]) -> (Table, u32) {
     let mut counter = state.counter;
     let mut given = [0; RECORDS];
     let mut m = 0;
-    for (s, row) in frame.chunks_exact(4).enumerate() {
+    for (s, row) in frame.chunks_exact(PER_SLOT).enumerate() {
         let was = &state.table[s];
         if row[0] == 0 {
             new[s].id = -1;
@@ -49,17 +49,22 @@ fn plan(state: &State, frame: &[i32]) -> (Table, u32) {
             m += 1;
             counter = (k + 1) % 65536;
         }
-        new[s] = Slot { id, x: row[1] as u32, y: row[2] as u32, pressure: row[3] as u32 };
+        new[s] = Slot { id, ..Slot::of(row) };
     }
     (new, counter)
 }
 
 fn numbers_changed(a: &Slot, b: &Slot) -> usize {
-    (a.id != b.id) as usize + (a.x != b.x) as usize + (a.y != b.y) as usize + (a.pressure != b.pressure) as usize
+    (a.id != b.id) as usize
+        + (a.x != b.x) as usize
+        + (a.y != b.y) as usize
+        + (a.pressure != b.pressure) as usize
+        + (a.major != b.major) as usize
+        + (a.minor != b.minor) as usize
 }
 
 /// The changed slots, bit s for slot s, and how many numbers changed.
-fn tally(old: &Table, new: &Table) -> (u16, usize) {
+fn tally(old: &Table, new: &Table) -> (u32, usize) {
     let mut changed = 0;
     let mut numbers = 0;
     for s in 0..RECORDS {
@@ -93,10 +98,16 @@ fn put_changes(buf: &mut [u8], at: &mut usize, old: &Slot, new: &Slot) {
     if old.pressure != new.pressure {
         put(buf, at, 3, 0x3a, new.pressure as i32);
     }
+    if old.major != new.major {
+        put(buf, at, 3, 0x30, new.major as i32);
+    }
+    if old.minor != new.minor {
+        put(buf, at, 3, 0x31, new.minor as i32);
+    }
 }
 
 /// The events from `at` on; the last slot written.
-fn send(buf: &mut [u8], at: usize, old: &Table, new: &Table, current: usize, others: u16) -> usize {
+fn send(buf: &mut [u8], at: usize, old: &Table, new: &Table, current: usize, others: u32) -> usize {
     let mut last = current;
     let mut to = at;
     put_changes(buf, &mut to, &old[current], &new[current]);
@@ -121,7 +132,7 @@ fn write(state: State, frame: &[i32], buf: &mut [u8], at: usize) -> Written {
     if !state.well_formed() {
         return refused(state, 2, 0);
     }
-    if frame.len() != 4 * state.setup.n as usize {
+    if frame.len() != PER_SLOT * state.setup.n as usize {
         return refused(state, 3, 0);
     }
     if !values_ok(&state.setup, frame) {

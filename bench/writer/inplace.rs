@@ -1,49 +1,52 @@
 //! The writer in plain Rust that changes its state in place: each row is looked at once, only changed numbers are stored, no table is copied. It judges what the proved one judges.
 
-use crate::panel::{Setup, Slot, RECORDS};
+use crate::panel::{Setup, Slot, PER_SLOT, RECORDS};
 use crate::state::State;
 use crate::version::{Refused, Sent, Writer};
 use std::slice::ChunksExactMut;
 
 // Which numbers of a slot change, a bit each; an event's type and code as the number that its first four bytes are.
-const ID: u64 = 1;
-const X: u64 = 2;
-const Y: u64 = 4;
-const PRESSURE: u64 = 8;
+const ID: u8 = 1;
+const X: u8 = 2;
+const Y: u8 = 4;
+const PRESSURE: u8 = 8;
+const MAJOR: u8 = 16;
+const MINOR: u8 = 32;
 const REPORT: u32 = 0;
 const SEND_SLOT: u32 = 0x2f_0003;
+const SEND_MAJOR: u32 = 0x30_0003;
+const SEND_MINOR: u32 = 0x31_0003;
 const SEND_X: u32 = 0x35_0003;
 const SEND_Y: u32 = 0x36_0003;
 const SEND_ID: u32 = 0x39_0003;
 const SEND_PRESSURE: u32 = 0x3a_0003;
 
-/// What a frame changes: four bits for each slot, the first slot's lowest.
-#[derive(Clone, Copy)]
-struct Changes(u64);
+/// What a frame changes: which numbers of each slot, which slots and ids, a bit each, and how many numbers.
+struct Changes {
+    of: [u8; RECORDS],
+    slots: u32,
+    ids: u32,
+    numbers: u32,
+}
 
 impl Changes {
-    /// The lowest bit of each slot's four.
-    const FIRSTS: u64 = 0x1111_1111_1111_1111;
-
-    fn of(self, s: usize) -> u64 {
-        self.0 >> (4 * s)
-    }
-
-    /// The changed slots, a bit each where the slot's four begin.
-    fn slots(self) -> u64 {
-        (self.0 | self.0 >> 1 | self.0 >> 2 | self.0 >> 3) & Self::FIRSTS
+    fn note(&mut self, s: usize, d: u8) {
+        self.of[s] = d;
+        self.slots |= u32::from(d != 0) << s;
+        self.ids |= u32::from(d & ID) << s;
+        self.numbers += d.count_ones();
     }
 
     /// The changed slots but the current one: those that an event opens.
-    fn others(self, current: usize) -> u64 {
-        self.slots() & !(1 << (4 * current))
+    fn others(&self, current: usize) -> u32 {
+        self.slots & !(1 << current)
     }
 
-    fn events(self, current: usize) -> usize {
-        if self.0 == 0 {
+    fn events(&self, current: usize) -> usize {
+        if self.numbers == 0 {
             return 0;
         }
-        1 + (self.0.count_ones() + self.others(current).count_ones()) as usize
+        (1 + self.numbers + self.others(current).count_ones()) as usize
     }
 }
 
@@ -59,15 +62,17 @@ impl Records<'_> {
 }
 
 /// What a row changes in its slot; None for a kind or a number out of its range.
-fn judge(setup: &Setup, row: &[i32], slot: &Slot) -> Option<u64> {
-    let (x, y, pressure) = (row[1] as u32, row[2] as u32, row[3] as u32);
+fn judge(setup: &Setup, row: &[i32], slot: &Slot) -> Option<u8> {
+    let new = Slot::of(row);
     match row[0] {
-        0 => Some((slot.id != -1) as u64 * ID),
-        kind @ (1 | 2) if setup.contact_ok(x, y, pressure) => Some(
-            (kind == 2 || slot.id == -1) as u64 * ID
-                + (x != slot.x) as u64 * X
-                + (y != slot.y) as u64 * Y
-                + (pressure != slot.pressure) as u64 * PRESSURE,
+        0 => Some((slot.id != -1) as u8 * ID),
+        kind @ (1 | 2) if setup.contact_ok(&new) => Some(
+            (kind == 2 || slot.id == -1) as u8 * ID
+                + (new.x != slot.x) as u8 * X
+                + (new.y != slot.y) as u8 * Y
+                + (new.pressure != slot.pressure) as u8 * PRESSURE
+                + (new.major != slot.major) as u8 * MAJOR
+                + (new.minor != slot.minor) as u8 * MINOR,
         ),
         _ => None,
     }
@@ -75,13 +80,11 @@ fn judge(setup: &Setup, row: &[i32], slot: &Slot) -> Option<u64> {
 
 impl State {
     fn changes(&self, frame: &[i32]) -> Option<Changes> {
-        let mut which = 0;
-        let mut place = 0;
-        for (row, slot) in frame.chunks_exact(4).zip(&self.table) {
-            which |= judge(&self.setup, row, slot)? << place;
-            place += 4;
+        let mut changes = Changes { of: [0; RECORDS], slots: 0, ids: 0, numbers: 0 };
+        for (s, (row, slot)) in frame.chunks_exact(PER_SLOT).zip(&self.table).enumerate() {
+            changes.note(s, judge(&self.setup, row, slot)?);
         }
-        Some(Changes(which))
+        Some(changes)
     }
 
     /// The next free id. Those given in this frame lie behind the counter, so only the table is searched.
@@ -95,41 +98,38 @@ impl State {
     }
 
     /// The ids after the frame, where they change. The table still has the old ones, which stay taken through the frame.
-    fn new_ids(&mut self, frame: &[i32], changes: Changes) -> [i32; RECORDS] {
+    fn new_ids(&mut self, frame: &[i32], changes: &Changes) -> [i32; RECORDS] {
         let mut ids = [-1; RECORDS];
-        let mut left = changes.0 & (Changes::FIRSTS * ID);
+        let mut left = changes.ids;
         while left != 0 {
-            let s = left.trailing_zeros() as usize / 4;
+            let s = left.trailing_zeros() as usize;
             left &= left - 1;
-            if frame[4 * s] != 0 {
+            if frame[PER_SLOT * s] != 0 {
                 ids[s] = self.next_id();
             }
         }
         ids
     }
 
-    /// Stores and sends what changes, the current slot first; answers the changed slots.
-    fn send(&mut self, frame: &[i32], changes: Changes, out: &mut Records) -> u16 {
+    /// Stores and sends what changes, the current slot first.
+    fn send(&mut self, frame: &[i32], changes: &Changes, out: &mut Records) {
         let ids = self.new_ids(frame, changes);
         let mut s = self.current as usize;
         let mut others = changes.others(s);
-        let mut changed = ((changes.slots() >> (4 * s)) as u16 & 1) << s;
         loop {
-            self.send_slot(s, changes.of(s), ids[s], &frame[4 * s..4 * s + 4], out);
+            self.send_slot(s, changes.of[s], ids[s], &frame[PER_SLOT * s..PER_SLOT * (s + 1)], out);
             if others == 0 {
                 break;
             }
-            s = others.trailing_zeros() as usize / 4;
+            s = others.trailing_zeros() as usize;
             others &= others - 1;
-            changed |= 1 << s;
             out.put(SEND_SLOT, s as i32);
         }
         self.current = s as u32;
         out.put(REPORT, 0);
-        changed
     }
 
-    fn send_slot(&mut self, s: usize, d: u64, id: i32, row: &[i32], out: &mut Records) {
+    fn send_slot(&mut self, s: usize, d: u8, id: i32, row: &[i32], out: &mut Records) {
         let slot = &mut self.table[s];
         if d & ID != 0 {
             slot.id = id;
@@ -147,6 +147,14 @@ impl State {
             slot.pressure = row[3] as u32;
             out.put(SEND_PRESSURE, row[3]);
         }
+        if d & MAJOR != 0 {
+            slot.major = row[4] as u32;
+            out.put(SEND_MAJOR, row[4]);
+        }
+        if d & MINOR != 0 {
+            slot.minor = row[5] as u32;
+            out.put(SEND_MINOR, row[5]);
+        }
     }
 
     fn write(&mut self, frame: &[i32], buf: &mut [u8], at: usize) -> Result<Sent, Refused> {
@@ -154,7 +162,7 @@ impl State {
         if !self.well_formed() {
             return refused(2, 0);
         }
-        if frame.len() != 4 * self.setup.n as usize {
+        if frame.len() != PER_SLOT * self.setup.n as usize {
             return refused(3, 0);
         }
         let Some(changes) = self.changes(frame) else {
@@ -167,8 +175,8 @@ impl State {
         if count == 0 {
             return Ok(Sent { count, changed: 0 });
         }
-        let changed = self.send(frame, changes, &mut Records(buf[at..at + 8 * count].chunks_exact_mut(8)));
-        Ok(Sent { count, changed })
+        self.send(frame, &changes, &mut Records(buf[at..at + 8 * count].chunks_exact_mut(8)));
+        Ok(Sent { count, changed: changes.slots })
     }
 }
 

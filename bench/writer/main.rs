@@ -13,13 +13,13 @@ mod panel;
 mod state;
 mod version;
 
-use panel::{Setup, RECORDS, ZERO};
+use panel::{Setup, MOST_EVENTS, RECORDS, ZERO};
 use state::State;
 use std::hint::black_box;
 use version::{in_rust, Answer, Version};
 
 extern "C" {
-    fn rattle_fresh(state: &mut State, n: u32, x: u32, y: u32, pressure: u32) -> u64;
+    fn rattle_fresh(state: &mut State, n: u32, x: u32, y: u32, pressure: u32, major: u32, minor: u32) -> u64;
     fn rattle_write(
         state: &mut State,
         frame: *const i32,
@@ -35,7 +35,7 @@ pub const BLANK: State = State { setup: Setup::ZERO, current: 0, counter: 0, tab
 /// What stands in the answer's place before a call, so that a number that is not told shows.
 pub const UNTOLD: Answer = Answer { count: 77, changed: 77, need: 77 };
 /// The most bytes that a frame can need.
-pub const ROOM: usize = 640;
+pub const ROOM: usize = 8 * MOST_EVENTS;
 
 static VERSIONS: [Version; 3] = [
     in_rust::<copies::Copies>("copies"),

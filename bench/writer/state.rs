@@ -1,4 +1,4 @@
-//! The writer's state as each version is handed it, 280 bytes that the host keeps, and what refusals 1 and 2 judge.
+//! The writer's state as each version is handed it, 416 bytes that the host keeps, and what refusals 1 and 2 judge.
 
 use crate::panel::{ids_differ, Setup, Table, RECORDS, UNUSED, ZERO};
 

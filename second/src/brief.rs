@@ -1,12 +1,13 @@
 //! A shorter way to write a script's lines, for people: `[..]` is a table and `{..}` a record.
 //!
-//! `[0 100 200 30]` is a table whose first slots are given and whose others are unused; `{X 300}` is the eight bytes of that event, `{X 300}*9` nine times them.
+//! `[0 100 200 30 9 7]` is a table whose first slots are given and whose others are unused, with four numbers a slot in a call of a crane's; `{X 300}` is the eight bytes of that event, `{X 300}*9` nine times them.
 
 use crate::events::{events, RECORD};
 use crate::reader::Reader;
 use crate::records;
-use crate::script::{Call, HEAD_NUMBERS, MOST_NUMBERS, READER_NUMBERS, TABLE_NUMBERS, WRITER_NUMBERS};
-use crate::table::{Slot, Table, SLOTS, SLOT_NUMBERS};
+use crate::script::{head_numbers, layout_of, reader_numbers, table_numbers};
+use crate::script::{Call, MOST_NUMBERS, WRITER_HEAD, WRITER_NUMBERS};
+use crate::table::{Layout, Slot, Table};
 
 /// A whole brief script as a script for `drive`; an error names its line.
 pub fn expand(text: &str) -> Result<String, String> {
@@ -26,17 +27,18 @@ pub fn expand(text: &str) -> Result<String, String> {
 fn expand_line(line: &str) -> Result<String, String> {
     let mut out: Vec<String> = Vec::new();
     let mut rest = line.trim();
+    let (layout, _) = layout_of(rest);
     while !rest.is_empty() {
-        rest = expand_part(rest, &mut out)?.trim_start();
+        rest = expand_part(rest, layout, &mut out)?.trim_start();
     }
     Ok(out.join(" "))
 }
 
 /// Writes out the table, the record or the word that `rest` begins with; what comes after it.
-fn expand_part<'a>(rest: &'a str, out: &mut Vec<String>) -> Result<&'a str, String> {
+fn expand_part<'a>(rest: &'a str, layout: Layout, out: &mut Vec<String>) -> Result<&'a str, String> {
     if let Some(inside) = rest.strip_prefix('[') {
         let (table, after) = inside.split_once(']').ok_or("a [ without its ]")?;
-        expand_table(table, out)?;
+        expand_table(table, layout, out)?;
         return Ok(after);
     }
     if let Some(inside) = rest.strip_prefix('{') {
@@ -74,14 +76,16 @@ fn times(count: &str, behind: usize) -> Result<usize, String> {
     Ok(times)
 }
 
-fn expand_table(inside: &str, out: &mut Vec<String>) -> Result<(), String> {
+fn expand_table(inside: &str, layout: Layout, out: &mut Vec<String>) -> Result<(), String> {
     let numbers: Vec<&str> = inside.split_whitespace().collect();
-    if numbers.len() % SLOT_NUMBERS != 0 || numbers.len() > TABLE_NUMBERS {
-        return Err(format!("a table of {} numbers: four a slot, at most {TABLE_NUMBERS}", numbers.len()));
+    let (width, most) = (layout.slot_numbers(), table_numbers(layout));
+    if numbers.len() % width != 0 || numbers.len() > most {
+        return Err(format!("a table of {} numbers: {width} a slot, at most {most}", numbers.len()));
     }
     out.extend(numbers.iter().map(|number| number.to_string()));
-    for _ in numbers.len() / SLOT_NUMBERS..SLOTS {
-        out.extend(["-1", "0", "0", "0"].map(str::to_string));
+    for _ in numbers.len() / width..layout.slots() {
+        out.push("-1".to_string());
+        out.extend(vec!["0".to_string(); layout.numbers()]);
     }
     Ok(())
 }
@@ -102,25 +106,30 @@ pub fn shorten(call: &Call) -> String {
             line
         }
         Call::One { reader, .. } | Call::Load { reader, .. } | Call::Ask { reader, .. } | Call::Good { reader } => {
-            join(short_reader(&words, reader), &words[READER_NUMBERS + 1..])
+            join(short_reader(&words, reader), &words[reader_numbers(reader.layout) + 1..])
         }
         Call::Write { writer, .. } => {
-            let head = words[..=HEAD_NUMBERS].join(" ");
-            join(format!("{head} {}", short_table(&writer.table)), &words[WRITER_NUMBERS + 1..])
+            let head = words[..=WRITER_HEAD].join(" ");
+            join(format!("{head} {}", short_table(Layout::Panel, &writer.table)), &words[WRITER_NUMBERS + 1..])
         }
-        Call::Fresh(_) | Call::New(_) | Call::Start | Call::Pod { .. } => long,
+        Call::Fresh(..) | Call::New(_) | Call::Start | Call::Pod { .. } => long,
     }
 }
 
 fn short_reader(words: &[&str], reader: &Reader) -> String {
-    format!("{} {} {}", words[..=HEAD_NUMBERS].join(" "), short_table(&reader.shown), short_table(&reader.pending))
+    let head = words[..=head_numbers(reader.layout)].join(" ");
+    let table = |table: &Table| short_table(reader.layout, table);
+    format!("{head} {} {}", table(&reader.shown), table(&reader.pending))
 }
 
-fn short_table(table: &Table) -> String {
+fn short_table(layout: Layout, table: &Table) -> String {
     let used = table.iter().rposition(|slot| *slot != Slot::UNUSED).map_or(0, |last| last + 1);
-    let slots: Vec<String> =
-        table[..used].iter().map(|slot| format!("{} {} {} {}", slot.id.0, slot.x, slot.y, slot.pressure)).collect();
+    let slots: Vec<String> = table[..used].iter().map(|slot| short_slot(layout, slot)).collect();
     format!("[{}]", slots.join("  "))
+}
+
+fn short_slot(layout: Layout, slot: &Slot) -> String {
+    slot.numbers[..layout.numbers()].iter().fold(slot.id.0.to_string(), |text, number| format!("{text} {number}"))
 }
 
 fn join(mut line: String, words: &[&str]) -> String {
@@ -135,6 +144,7 @@ fn join(mut line: String, words: &[&str]) -> String {
 mod tests {
     use super::*;
     use crate::maker::Maker;
+    use crate::table::SLOTS;
 
     #[test]
     fn short_lines_come_back() {
@@ -148,13 +158,21 @@ mod tests {
 
     #[test]
     fn tables_records_and_counts() {
+        let records = "3 0 53 0 1 0 0 0 3 0 53 0 1 0 0 0 0 0 0 0 0 0 0 0";
+        let rest = " -1 0 0 0 0 0".repeat(SLOTS - 1);
+        assert_eq!(
+            expand("# a name\nrun 1 2 3 4 5 6 0 0 [5 1 1 1 2 3] [] {X 1}*2 {REPORT} 9\n").unwrap(),
+            format!("# a name\nrun 1 2 3 4 5 6 0 0 5 1 1 1 2 3{rest} -1 0 0 0 0 0{rest} {records} 9\n")
+        );
         let rest = " -1 0 0 0".repeat(15);
         assert_eq!(
-            expand("# a name\nrun 1 2 3 4 0 0 [5 1 1 1] [] {X 1}*2 {REPORT} 9\n").unwrap(),
-            format!("# a name\nrun 1 2 3 4 0 0 5 1 1 1{rest} -1 0 0 0{rest} 3 0 53 0 1 0 0 0 3 0 53 0 1 0 0 0 0 0 0 0 0 0 0 0 9\n")
+            expand("crane_run 1 2 3 4 0 0 [5 1 1 1] [] {X 1}*2 {REPORT}\n").unwrap(),
+            format!("crane_run 1 2 3 4 0 0 5 1 1 1{rest} -1 0 0 0{rest} {records}\n")
         );
         for (text, error) in [
             ("\nrun [1 2 3]", "line 2: a table of 3"),
+            ("run [1 2 3 4]", "line 1: a table of 4 numbers: 6 a slot"),
+            ("crane_run [1 2 3 4 5 6]", "line 1: a table of 6 numbers: 4 a slot"),
             ("run [1", "line 1: a [ "),
             ("run {X", "line 1: a { "),
             ("run {Z 1}", "line 1: 'Z'"),

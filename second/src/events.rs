@@ -1,8 +1,10 @@
 //! The eight-byte event record and the numbers of the events.
 
+use crate::table::{Layout, MAJOR, MINOR, NUMBERS, PRESSURE, X, Y};
+
 /// The type of the two SYN events.
 pub const EV_SYN: u16 = 0;
-/// The type of the five ABS_MT events.
+/// The type of the ABS_MT events.
 pub const EV_ABS: u16 = 3;
 
 /// Ends the events of a frame.
@@ -12,25 +14,51 @@ pub const SYN_DROPPED: u16 = 3;
 
 /// Which slot the next numbers are for.
 pub const ABS_MT_SLOT: u16 = 0x2f;
-/// A number of the current slot, as the three after it.
+/// The id of the current slot.
+pub const ABS_MT_TRACKING_ID: u16 = 0x39;
+/// A number of the current slot, as those after it.
 pub const ABS_MT_POSITION_X: u16 = 0x35;
 pub const ABS_MT_POSITION_Y: u16 = 0x36;
-pub const ABS_MT_TRACKING_ID: u16 = 0x39;
 pub const ABS_MT_PRESSURE: u16 = 0x3a;
+pub const ABS_MT_TOUCH_MAJOR: u16 = 0x30;
+pub const ABS_MT_TOUCH_MINOR: u16 = 0x31;
+
+/// The codes of a slot's numbers, in their order.
+pub const CODES: [u16; NUMBERS] =
+    [ABS_MT_POSITION_X, ABS_MT_POSITION_Y, ABS_MT_PRESSURE, ABS_MT_TOUCH_MAJOR, ABS_MT_TOUCH_MINOR];
+
+/// Which of a slot's numbers a code of type EV_ABS sets.
+pub fn number_of(code: u16) -> Option<usize> {
+    Some(match code {
+        ABS_MT_POSITION_X => X,
+        ABS_MT_POSITION_Y => Y,
+        ABS_MT_PRESSURE => PRESSURE,
+        ABS_MT_TOUCH_MAJOR => MAJOR,
+        ABS_MT_TOUCH_MINOR => MINOR,
+        _ => return None,
+    })
+}
 
 /// The types that have listed codes; of any other type no code is known.
 pub const KNOWN_TYPES: [u16; 2] = [EV_SYN, EV_ABS];
 
-/// The types and codes that are listed; all others are skipped.
-pub const LISTED: [(u16, u16); 7] = [
+/// Every listed type and code, those that a crane does not know last.
+const LISTED: [(u16, u16); 4 + NUMBERS] = [
     (EV_SYN, SYN_REPORT),
     (EV_SYN, SYN_DROPPED),
     (EV_ABS, ABS_MT_SLOT),
-    (EV_ABS, ABS_MT_POSITION_X),
-    (EV_ABS, ABS_MT_POSITION_Y),
     (EV_ABS, ABS_MT_TRACKING_ID),
-    (EV_ABS, ABS_MT_PRESSURE),
+    (EV_ABS, CODES[X]),
+    (EV_ABS, CODES[Y]),
+    (EV_ABS, CODES[PRESSURE]),
+    (EV_ABS, CODES[MAJOR]),
+    (EV_ABS, CODES[MINOR]),
 ];
+
+/// The types and codes that are listed for such a reader; it skips all others.
+pub fn listed(layout: Layout) -> &'static [(u16, u16)] {
+    &LISTED[..4 + layout.numbers()]
+}
 
 /// The bytes of a record.
 pub const RECORD: usize = 8;
@@ -86,6 +114,17 @@ pub fn events(records: &[u8]) -> impl Iterator<Item = Event> + '_ {
 #[cfg(test)]
 mod tests {
     use super::*;
+
+    #[test]
+    fn each_code_has_its_number() {
+        for (i, code) in CODES.into_iter().enumerate() {
+            assert_eq!(number_of(code), Some(i));
+        }
+        assert_eq!((0..=u16::MAX).filter(|code| number_of(*code).is_some()).count(), NUMBERS);
+        let sizes = [(3, 0x30), (3, 0x31)];
+        assert_eq!(listed(Layout::Panel)[7..], sizes);
+        assert!(sizes.iter().all(|size| !listed(Layout::Crane).contains(size)));
+    }
 
     #[test]
     fn little_endian_and_signed() {

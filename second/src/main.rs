@@ -28,7 +28,7 @@ second records decode [frames] < BYTES the text of such an input
 second noise PROGRAM SEED INDEX        one random input for a program
 second noises PROGRAM SEED FIRST COUNT FOLDER
                                        COUNT of them from FIRST on, with what the program answers, as files
-second show_table | write_frames | show_pod | drive < BYTES
+second show_table | crane_table | write_frames | show_pod | drive < BYTES
                                        the program of that name";
 
 const CASES: &str = include_str!("../cases.txt");

@@ -1,11 +1,13 @@
 //! Seeded random input for the programs: plain noise, noise that gets past the first test, and input that is cut or refused in each way.
 
+use std::io;
+
 use crate::events::Event;
 use crate::maker::Maker;
 use crate::pod::Pod;
-use crate::programs::HEADER;
+use crate::programs::{write_frames, HEADER};
 use crate::reader::Reader;
-use crate::table::{Setup, LARGEST_POSITION, LARGEST_PRESSURE, SLOTS};
+use crate::table::{Layout, Setup, LIMITS, NUMBERS};
 use crate::writer::{Writer, LARGEST_FRAME};
 
 /// Every other input is short, one length after the other, so that every cut of the first records is tried; between them come long ones.
@@ -21,15 +23,17 @@ pub fn noise(program: &str, seed: u64, index: u64) -> Option<Vec<u8>> {
     let (shape, turn) = (index % 4, index / 4);
     let is_short = turn % 2 == 0 && turn / 2 < EACH_LENGTH;
     let length = if is_short { turn / 2 } else { maker.random.below(LONGEST) } as usize;
+    let layout = if program == "crane_table" { Layout::Crane } else { Layout::Panel };
     Some(match program {
         "show_pod" => pod_bytes(&mut maker, shape, length),
         "drive" => script(&mut maker, shape, length),
-        "show_table" | "write_frames" if shape == 0 => odd_setup(&mut maker, turn),
-        "show_table" => after_setup(&mut maker, length, |maker, setup| match shape {
+        "show_table" | "crane_table" | "write_frames" if shape == 0 => odd_setup(&mut maker, layout, turn),
+        "show_table" | "crane_table" => after_setup(&mut maker, layout, length, |maker, setup| match shape {
             1 => plain(maker, length),
-            _ => records(maker, setup, length, shape == 3),
+            _ if layout == Layout::Crane && maker.random.once_in(2) => sent(maker, setup, length),
+            _ => records(maker, layout, setup, length, shape == 3),
         }),
-        "write_frames" => after_setup(&mut maker, length, |maker, setup| match shape {
+        "write_frames" => after_setup(&mut maker, layout, length, |maker, setup| match shape {
             1 => plain(maker, length),
             _ => frames(maker, setup, length),
         }),
@@ -38,8 +42,13 @@ pub fn noise(program: &str, seed: u64, index: u64) -> Option<Vec<u8>> {
 }
 
 /// A good setup and what `more` makes after it: `length` bytes, or some more to be whole.
-fn after_setup(maker: &mut Maker, length: usize, more: impl Fn(&mut Maker, Setup) -> Vec<u8>) -> Vec<u8> {
-    let setup = maker.setup();
+fn after_setup(
+    maker: &mut Maker,
+    layout: Layout,
+    length: usize,
+    more: impl Fn(&mut Maker, Setup) -> Vec<u8>,
+) -> Vec<u8> {
+    let setup = panel_setup(maker, layout);
     let mut bytes = header(&setup);
     bytes.extend(more(maker, setup));
     // Cut every other time only: a cut record hides the table.
@@ -49,49 +58,56 @@ fn after_setup(maker: &mut Maker, length: usize, more: impl Fn(&mut Maker, Setup
     bytes
 }
 
+/// A panel's setup that is good, also as such a reader knows it.
+fn panel_setup(maker: &mut Maker, layout: Layout) -> Setup {
+    let known = maker.setup(layout);
+    match layout {
+        Layout::Panel => known,
+        Layout::Crane => maker.panel_setup(&known),
+    }
+}
+
 fn plain(maker: &mut Maker, length: usize) -> Vec<u8> {
     (0..length).map(|_| maker.random.word() as u8).collect()
 }
 
 /// In turn a cut setup, one with a single number out of its range, one with any numbers, and none; few bytes follow.
-fn odd_setup(maker: &mut Maker, turn: u64) -> Vec<u8> {
+fn odd_setup(maker: &mut Maker, layout: Layout, turn: u64) -> Vec<u8> {
     let setup = match turn % 4 {
-        0 => return header(&maker.setup())[..(turn / 4) as usize % HEADER].to_vec(),
-        1 => header(&one_bad_number(maker, turn / 4 % 4)),
-        2 => header(&maker.any_setup()),
+        0 => return header(&panel_setup(maker, layout))[..(turn / 4) as usize % HEADER].to_vec(),
+        1 => header(&one_bad_number(maker, layout, (turn / 4) as usize % (1 + NUMBERS))),
+        2 => header(&maker.any_setup(Layout::Panel)),
         _ => Vec::new(),
     };
     let length = maker.random.below(EACH_LENGTH) as usize;
     [setup, plain(maker, length)].concat()
 }
 
-/// The number `which` is out of its range, and the others are good.
-fn one_bad_number(maker: &mut Maker, which: u64) -> Setup {
-    let mut setup = maker.setup();
+/// The number `which` is out of its range, and the others are good. A crane does not judge the touch sizes.
+fn one_bad_number(maker: &mut Maker, layout: Layout, which: usize) -> Setup {
+    let mut setup = panel_setup(maker, layout);
     match which {
         0 => {
-            let n = maker.bad_n(setup.slots) as u32;
+            let n = maker.bad_n(layout, setup.slots) as u32;
             // A header has 32 bits of it, and cut to them it may be good.
-            setup.slots = if (1..=SLOTS as u32).contains(&n) { 0 } else { u64::from(n) };
+            setup.slots = if (1..=layout.slots() as u32).contains(&n) { 0 } else { u64::from(n) };
         }
-        1 => setup.largest_x = maker.bad_largest(setup.largest_x, LARGEST_POSITION),
-        2 => setup.largest_y = maker.bad_largest(setup.largest_y, LARGEST_POSITION),
-        _ => setup.largest_pressure = maker.bad_largest(setup.largest_pressure, LARGEST_PRESSURE),
+        _ => {
+            let largest = &mut setup.largest[which - 1];
+            *largest = maker.bad_largest(*largest, LIMITS[which - 1]);
+        }
     }
     setup
 }
 
 /// More than the low 32 bits of n does not fit a header; the cut number is then as good a header as another.
 fn header(setup: &Setup) -> Vec<u8> {
-    [setup.slots as u32, setup.largest_x, setup.largest_y, setup.largest_pressure]
-        .iter()
-        .flat_map(|number| number.to_le_bytes())
-        .collect()
+    [setup.slots as u32].iter().chain(&setup.largest).flat_map(|number| number.to_le_bytes()).collect()
 }
 
 /// Records that are mostly good, at least so many bytes; with `times` in front of each, as Linux has them, most are skipped.
-fn records(maker: &mut Maker, setup: Setup, length: usize, times: bool) -> Vec<u8> {
-    let mut reader = Reader::fresh(setup).expect("a good setup");
+fn records(maker: &mut Maker, layout: Layout, setup: Setup, length: usize, times: bool) -> Vec<u8> {
+    let mut reader = Reader::fresh(layout, setup.known_to(layout)).expect("a good setup");
     let rough = maker.random.once_in(2);
     let mut bytes = Vec::new();
     while bytes.len() < length {
@@ -139,6 +155,14 @@ fn frames(maker: &mut Maker, setup: Setup, length: usize) -> Vec<u8> {
         bytes.extend(frame.iter().flat_map(|number| number.to_le_bytes()));
     }
     bytes
+}
+
+/// What a writer sends of such frames, at least so many bytes where the frames change enough.
+fn sent(maker: &mut Maker, setup: Setup, length: usize) -> Vec<u8> {
+    let mut bytes = Vec::new();
+    let frames = [header(&setup), frames(maker, setup, length)].concat();
+    write_frames(&frames[..], &mut bytes, io::sink());
+    bytes.split_off(HEADER)
 }
 
 fn pod_bytes(maker: &mut Maker, shape: u64, length: usize) -> Vec<u8> {
@@ -203,24 +227,32 @@ mod tests {
     #[test]
     fn each_number_is_bad_by_itself() {
         let mut maker = Maker::new(6);
-        for which in 0..400 {
-            let setup = one_bad_number(&mut maker, which % 4);
-            let bad = [
-                !(1..=16).contains(&(setup.slots as u32)),
-                !(1..=32_767).contains(&setup.largest_x),
-                !(1..=32_767).contains(&setup.largest_y),
-                !(1..=255).contains(&setup.largest_pressure),
-            ];
-            let expected = [0, 1, 2, 3].map(|i| i == which % 4);
-            assert_eq!(bad, expected);
+        for (layout, round) in Layout::ALL.into_iter().flat_map(|layout| (0..600).map(move |round| (layout, round))) {
+            let which = round % (1 + NUMBERS);
+            let setup = one_bad_number(&mut maker, layout, which);
+            assert_eq!((1..=layout.slots() as u64).contains(&setup.slots), which != 0);
+            for (i, limit) in LIMITS.into_iter().enumerate() {
+                assert_eq!((1..=limit).contains(&setup.largest[i]), which != 1 + i);
+            }
         }
+    }
+
+    /// A crane shows what such records tell, and skips the rest: too little of either would try nothing.
+    #[test]
+    fn what_is_sent_has_touch_sizes() {
+        let mut maker = Maker::new(8);
+        let setup = panel_setup(&mut maker, Layout::Crane);
+        let mut reader = Reader::fresh(Layout::Crane, setup.known_to(Layout::Crane)).unwrap();
+        let ran = reader.run(&sent(&mut maker, setup, 5_000)).unwrap();
+        assert!(ran.shown > 5 && ran.unknown_code > 5, "{ran:?}");
+        assert_eq!((ran.unknown_type, ran.bad, ran.ignored), (0, 0, 0));
     }
 
     #[test]
     fn records_with_times_are_24_bytes() {
         let mut maker = Maker::new(7);
-        let setup = maker.setup();
-        let bytes = records(&mut maker, setup, 2_400, true);
+        let setup = maker.setup(Layout::Panel);
+        let bytes = records(&mut maker, Layout::Panel, setup, 2_400, true);
         assert!(bytes.len() == 2_400 || bytes.len() == 2_408);
         let microseconds = |record: &[u8]| u64::from_le_bytes(record[8..16].try_into().unwrap());
         assert!(bytes.chunks_exact(24).all(|record| microseconds(record) < 1_000_000));

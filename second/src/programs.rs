@@ -1,4 +1,4 @@
-//! The programs of docs/PROGRAMS.md as filters: `show_table`, `write_frames`, `show_pod` and `drive`.
+//! The programs of docs/PROGRAMS.md as filters: `show_table`, `crane_table`, `write_frames`, `show_pod` and `drive`.
 
 use std::io::{self, Read, Write};
 
@@ -8,23 +8,28 @@ use crate::reader::{Mode, Reader};
 use crate::refusal::Refusal;
 use crate::script::{is_passed_over, Call, InWords, BAD_LINE, LONGEST_LINE};
 use crate::streams::{Came, Lines, Status, Streams, Words};
-use crate::table::{Setup, LARGEST_POSITION, LARGEST_PRESSURE, SLOTS, SLOT_NUMBERS};
+use crate::table::{Layout, Setup, LIMITS, NUMBERS, SLOTS, SLOT_NUMBERS};
 use crate::writer::{Writer, LARGEST_FRAME};
 
 /// The bytes of a number.
 pub const NUMBER: usize = 4;
-/// The bytes of the setup: n, largest x, y and pressure.
-pub const HEADER: usize = 4 * NUMBER;
+/// The bytes of the setup: n and the largest values.
+pub const HEADER: usize = (1 + NUMBERS) * NUMBER;
 /// The bytes that a frame has for each slot.
 pub const ROW: usize = SLOT_NUMBERS * NUMBER;
 
 /// The names that [`run`] takes.
-pub const NAMES: [&str; 4] = ["show_table", "write_frames", "show_pod", "drive"];
+pub const NAMES: [&str; 5] = ["show_table", "crane_table", "write_frames", "show_pod", "drive"];
+
+/// What a setup's largest values are called, in their order.
+const LARGEST: [&str; NUMBERS] =
+    ["the largest x", "the largest y", "the largest pressure", "the largest major", "the largest minor"];
 
 /// Runs the program of that name; `None` for a name that is none.
 pub fn run(name: &str, input: impl Read, out: impl Write, err: impl Write) -> Option<Status> {
     Some(match name {
         "show_table" => show_table(input, out, err),
+        "crane_table" => crane_table(input, out, err),
         "write_frames" => write_frames(input, out, err),
         "show_pod" => show_pod(input, out, err),
         "drive" => drive(input, out, err),
@@ -34,32 +39,31 @@ pub fn run(name: &str, input: impl Read, out: impl Write, err: impl Write) -> Op
 
 /// The setup, if the bytes are as many as it takes.
 fn header(bytes: &[u8]) -> Option<Setup> {
-    let numbers: [u8; HEADER] = bytes.try_into().ok()?;
-    let number = |i: usize| u32::from_le_bytes([numbers[i], numbers[i + 1], numbers[i + 2], numbers[i + 3]]);
-    Some(Setup {
-        slots: u64::from(number(0)),
-        largest_x: number(4),
-        largest_y: number(8),
-        largest_pressure: number(12),
-    })
+    let bytes: [u8; HEADER] = bytes.try_into().ok()?;
+    let mut numbers = bytes.chunks_exact(NUMBER).map(|b| u32::from_le_bytes([b[0], b[1], b[2], b[3]]));
+    let mut setup = Setup { slots: u64::from(numbers.next()?), ..Setup::ZEROS };
+    for largest in &mut setup.largest {
+        *largest = numbers.next()?;
+    }
+    Some(setup)
 }
 
-/// What is wrong with a setup, a line for each number out of its range; none for a good one.
-fn wrong_numbers(setup: &Setup) -> Vec<String> {
-    [
-        ("n", setup.slots, SLOTS as u64),
-        ("the largest x", u64::from(setup.largest_x), u64::from(LARGEST_POSITION)),
-        ("the largest y", u64::from(setup.largest_y), u64::from(LARGEST_POSITION)),
-        ("the largest pressure", u64::from(setup.largest_pressure), u64::from(LARGEST_PRESSURE)),
-    ]
-    .iter()
-    .filter(|(_, number, largest)| !(1..=*largest).contains(number))
-    .map(|(name, number, largest)| format!("{name} is {number}, and must be 1 to {largest}"))
-    .collect()
+/// What is wrong with a setup, a line for each number out of its range that such a reader knows; none for a good one.
+fn wrong_numbers(layout: Layout, setup: &Setup) -> Vec<String> {
+    let n = ("n", setup.slots, layout.slots() as u64);
+    let largest = (0..layout.numbers()).map(|i| (LARGEST[i], u64::from(setup.largest[i]), u64::from(LIMITS[i])));
+    [n].into_iter()
+        .chain(largest)
+        .filter(|(_, number, limit)| !(1..=*limit).contains(number))
+        .map(|(name, number, limit)| format!("{name} is {number}, and must be 1 to {limit}"))
+        .collect()
 }
 
-/// Takes the setup from the front of the input; a refused one comes as what was wrong with it.
-fn setup<R: Read, W: Write, E: Write>(streams: &mut Streams<R, W, E>) -> io::Result<Result<Setup, Vec<String>>> {
+/// Takes the setup from the front of the input, as far as such a reader knows it; a refused one comes as what was wrong with it.
+fn setup<R: Read, W: Write, E: Write>(
+    streams: &mut Streams<R, W, E>,
+    layout: Layout,
+) -> io::Result<Result<Setup, Vec<String>>> {
     // Where the input ended or was lost before, too few bytes are held.
     streams.hold(HEADER)?;
     let held = streams.input.held();
@@ -67,8 +71,8 @@ fn setup<R: Read, W: Write, E: Write>(streams: &mut Streams<R, W, E>) -> io::Res
         return Ok(Err(vec![format!("the setup is cut: {} of {HEADER} bytes", held.len())]));
     };
     streams.input.take(HEADER);
-    let wrong = wrong_numbers(&setup);
-    Ok(if wrong.is_empty() { Ok(setup) } else { Err(wrong) })
+    let wrong = wrong_numbers(layout, &setup);
+    Ok(if wrong.is_empty() { Ok(setup.known_to(layout)) } else { Err(wrong) })
 }
 
 fn refuse_setup<E: Write>(words: &mut Words<E>, wrong: &[String]) {
@@ -81,12 +85,19 @@ fn refuse_setup<E: Write>(words: &mut Words<E>, wrong: &[String]) {
 /// The table after the setup and the records of the input, or the one refusal.
 pub fn show_table(input: impl Read, out: impl Write, err: impl Write) -> Status {
     let mut streams = Streams::new("show_table", input, out, err);
-    let done = read_records(&mut streams);
+    let done = read_records(&mut streams, Layout::Panel);
     streams.end(done)
 }
 
-fn read_records<R: Read, W: Write, E: Write>(streams: &mut Streams<R, W, E>) -> io::Result<()> {
-    let setup = match setup(streams)? {
+/// The same as a crane in the field shows it, of the same input.
+pub fn crane_table(input: impl Read, out: impl Write, err: impl Write) -> Status {
+    let mut streams = Streams::new("crane_table", input, out, err);
+    let done = read_records(&mut streams, Layout::Crane);
+    streams.end(done)
+}
+
+fn read_records<R: Read, W: Write, E: Write>(streams: &mut Streams<R, W, E>, layout: Layout) -> io::Result<()> {
+    let setup = match setup(streams, layout)? {
         Ok(setup) => setup,
         Err(wrong) => {
             refused(streams, Refusal::Setup)?;
@@ -94,7 +105,7 @@ fn read_records<R: Read, W: Write, E: Write>(streams: &mut Streams<R, W, E>) -> 
             return Ok(());
         }
     };
-    let mut reader = Reader::fresh(setup).expect("a setup without a wrong number is good");
+    let mut reader = Reader::fresh(layout, setup).expect("a setup without a wrong number is good");
     let mut read = Followed::default();
     let ended = streams.units(RECORD, |run, _, _| -> io::Result<()> {
         read.run(&mut reader, run);
@@ -110,11 +121,15 @@ fn read_records<R: Read, W: Write, E: Write>(streams: &mut Streams<R, W, E>) -> 
         return Ok(());
     }
     print_table(&reader, &mut streams.out)?;
-    if read.was_mostly_skipped() {
+    if read.was_mostly_strange() {
         streams.out.flush()?;
-        streams.words.say(
-            "most records were skipped: Linux's struct input_event has 24 bytes, and only the last 8 are a record here",
-        );
+        let what = match layout {
+            Layout::Panel => "were skipped",
+            Layout::Crane => "have an unknown type",
+        };
+        streams.words.say(&format!(
+            "most records {what}: Linux's struct input_event has 24 bytes, and only the last 8 are a record here"
+        ));
     }
     Ok(())
 }
@@ -132,18 +147,22 @@ fn refused<R: Read, W: Write, E: Write>(streams: &mut Streams<R, W, E>, refusal:
 #[derive(Default)]
 struct Followed {
     followed: u64,
-    skipped: u64,
+    strange: u64,
 }
 
 impl Followed {
     fn run(&mut self, reader: &mut Reader, records: &[u8]) {
         let ran = reader.run(records).expect(WELL_FORMED);
         self.followed += (records.len() / RECORD) as u64 - ran.ignored;
-        self.skipped += ran.skipped();
+        // A crane skips every size of a gloved hand, and that is nothing strange.
+        self.strange += match reader.layout {
+            Layout::Panel => ran.skipped(),
+            Layout::Crane => ran.unknown_type,
+        };
     }
 
-    fn was_mostly_skipped(&self) -> bool {
-        self.followed >= 3 && 5 * self.skipped >= 3 * self.followed
+    fn was_mostly_strange(&self) -> bool {
+        self.followed >= 3 && 5 * self.strange >= 3 * self.followed
     }
 }
 
@@ -157,7 +176,11 @@ fn print_table(reader: &Reader, out: &mut impl Write) -> io::Result<()> {
     if reader.mode == Mode::Following {
         let used = &reader.shown[..reader.setup.slots as usize];
         for (s, slot) in used.iter().enumerate() {
-            writeln!(out, "{s} {} {} {} {}", slot.id.0, slot.x, slot.y, slot.pressure)?;
+            write!(out, "{s} {}", slot.id.0)?;
+            for number in &slot.numbers[..reader.layout.numbers()] {
+                write!(out, " {number}")?;
+            }
+            writeln!(out)?;
         }
     }
     Ok(())
@@ -171,7 +194,7 @@ pub fn write_frames(input: impl Read, out: impl Write, err: impl Write) -> Statu
 }
 
 fn send_frames<R: Read, W: Write, E: Write>(streams: &mut Streams<R, W, E>) -> io::Result<()> {
-    let setup = match setup(streams)? {
+    let setup = match setup(streams, Layout::Panel)? {
         Ok(setup) => setup,
         Err(wrong) => {
             streams.words.line(&format!("refused {}", Refusal::Setup.number()));
@@ -179,7 +202,7 @@ fn send_frames<R: Read, W: Write, E: Write>(streams: &mut Streams<R, W, E>) -> i
             return Ok(());
         }
     };
-    for number in [setup.slots as u32, setup.largest_x, setup.largest_y, setup.largest_pressure] {
+    for number in [setup.slots as u32].iter().chain(&setup.largest) {
         streams.out.write_all(&number.to_le_bytes())?;
     }
     let mut writer = Writer::fresh(setup).expect("a setup without a wrong number is good");

@@ -58,6 +58,7 @@ pub enum Asked {
 /// A reader's state, well formed or not.
 #[derive(Clone, PartialEq, Eq, Debug)]
 pub struct Reader {
+    pub layout: Layout,
     pub setup: Setup,
     pub current: SlotNumber,
     pub mode: Mode,
@@ -67,25 +68,25 @@ pub struct Reader {
 
 impl Reader {
     /// The state's place in an answer with refusal 1; it is not well formed.
-    pub const ZEROS: Reader = Reader {
-        setup: Setup::ZEROS,
-        current: SlotNumber(0),
-        mode: Mode::Following,
-        shown: ZERO_TABLE,
-        pending: ZERO_TABLE,
-    };
+    pub fn zeros(layout: Layout) -> Reader {
+        Reader { shown: ZERO_TABLE, pending: ZERO_TABLE, ..Reader::at_start(layout, Setup::ZEROS) }
+    }
 
     /// The state at the start; refusal 1.
-    pub fn fresh(setup: Setup) -> Result<Reader, Refusal> {
-        if !setup.is_good() {
+    pub fn fresh(layout: Layout, setup: Setup) -> Result<Reader, Refusal> {
+        if !setup.is_good(layout) {
             return Err(Refusal::Setup);
         }
-        Ok(Reader { setup, current: SlotNumber(0), mode: Mode::Following, shown: EMPTY, pending: EMPTY })
+        Ok(Reader::at_start(layout, setup))
+    }
+
+    fn at_start(layout: Layout, setup: Setup) -> Reader {
+        Reader { layout, setup, current: SlotNumber(0), mode: Mode::Following, shown: EMPTY, pending: EMPTY }
     }
 
     /// Whether any call takes this state; refusal 2 where it is not.
     pub fn is_well_formed(&self) -> bool {
-        self.setup.is_good()
+        self.setup.is_good(self.layout)
             && self.current.0 < self.setup.slots
             && is_good_table(&self.setup, &self.shown)
             && live_ids_differ(&self.shown)
@@ -177,16 +178,15 @@ impl Reader {
     fn follow(&mut self, event: Event, ran: &mut Ran) {
         let slot = &mut self.pending[self.current.0 as usize];
         let taken = match (event.kind, event.code) {
-            (EV_ABS, ABS_MT_POSITION_X) => in_range(event.value, self.setup.largest_x).map(|x| slot.x = x),
-            (EV_ABS, ABS_MT_POSITION_Y) => in_range(event.value, self.setup.largest_y).map(|y| slot.y = y),
-            (EV_ABS, ABS_MT_PRESSURE) => {
-                in_range(event.value, self.setup.largest_pressure).map(|pressure| slot.pressure = pressure)
-            }
-            (EV_ABS, ABS_MT_TRACKING_ID) => id_in_range(event.value).map(|id| slot.id = id),
-            (EV_ABS, ABS_MT_SLOT) => in_range(event.value, self.setup.slots as u32 - 1)
-                .map(|number| self.current = SlotNumber(u64::from(number))),
             (EV_SYN, SYN_REPORT) => return self.report(ran),
             (EV_SYN, SYN_DROPPED) => return self.lose(Mode::Dropped),
+            (EV_ABS, ABS_MT_SLOT) => in_range(event.value, self.setup.slots as u32 - 1)
+                .map(|number| self.current = SlotNumber(u64::from(number))),
+            (EV_ABS, ABS_MT_TRACKING_ID) => id_in_range(event.value).map(|id| slot.id = id),
+            (EV_ABS, code) => match number_of(code).filter(|i| *i < self.layout.numbers()) {
+                Some(i) => in_range(event.value, self.setup.largest[i]).map(|number| slot.numbers[i] = number),
+                None => return ran.skip(event),
+            },
             _ => return ran.skip(event),
         };
         if taken.is_none() {
@@ -211,18 +211,17 @@ impl Reader {
     }
 
     fn image_table(&self, image: &[i32]) -> Option<Table> {
-        if image.len() as u64 != SLOT_NUMBERS as u64 * self.setup.slots {
+        let width = self.layout.slot_numbers();
+        if image.len() as u64 != width as u64 * self.setup.slots {
             return None;
         }
         let mut table = EMPTY;
-        for (slot, numbers) in table.iter_mut().zip(image.chunks_exact(SLOT_NUMBERS)) {
+        for (slot, row) in table.iter_mut().zip(image.chunks_exact(width)) {
+            slot.id = id_in_range(row[0])?;
             // An unused slot's numbers are judged too: they become the table's.
-            *slot = Slot {
-                id: id_in_range(numbers[0])?,
-                x: in_range(numbers[1], self.setup.largest_x)?,
-                y: in_range(numbers[2], self.setup.largest_y)?,
-                pressure: in_range(numbers[3], self.setup.largest_pressure)?,
-            };
+            for (i, value) in row[1..].iter().enumerate() {
+                slot.numbers[i] = in_range(*value, self.setup.largest[i])?;
+            }
         }
         live_ids_differ(&table).then_some(table)
     }

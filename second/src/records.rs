@@ -15,12 +15,14 @@ const LONGEST_LINE: usize = 1 << 20;
 /// What begins a line on standard error.
 const NAME: &str = "second";
 
-const NAMES: [(&str, u16); 5] = [
+const NAMES: [(&str, u16); 7] = [
     ("SLOT", ABS_MT_SLOT),
+    ("ID", ABS_MT_TRACKING_ID),
     ("X", ABS_MT_POSITION_X),
     ("Y", ABS_MT_POSITION_Y),
-    ("ID", ABS_MT_TRACKING_ID),
     ("PRESSURE", ABS_MT_PRESSURE),
+    ("MAJOR", ABS_MT_TOUCH_MAJOR),
+    ("MINOR", ABS_MT_TOUCH_MINOR),
 ];
 
 /// One event from its words: `X 300`, `REPORT`, `EVENT 3 0x2f 1`.
@@ -153,8 +155,8 @@ impl Encoder {
         if self.begun {
             return Err("SETUP must come first".to_string());
         }
-        if words.len() != 4 {
-            return Err("SETUP takes four numbers: n, largest x, largest y, largest pressure".to_string());
+        if words.len() * NUMBER != HEADER {
+            return Err("SETUP takes six numbers: n, and the largest x, y, pressure, major and minor".to_string());
         }
         self.slots = words[0].parse().ok();
         for word in words {
@@ -183,7 +185,9 @@ impl Encoder {
             _ => words.len() % SLOT_NUMBERS == 0,
         };
         if !good {
-            return Err("FRAME takes four numbers (kind, x, y, pressure) for each of SETUP's slots".to_string());
+            return Err(
+                "FRAME takes six numbers (kind, x, y, pressure, major, minor) for each of SETUP's slots".to_string()
+            );
         }
         for word in words {
             self.bytes.extend(decimal::<i32>(word)?.to_le_bytes());

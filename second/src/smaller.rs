@@ -5,6 +5,7 @@ use crate::pod::Pod;
 use crate::reader::{Mode, Reader};
 use crate::script::Call;
 use crate::table::{Setup, Slot, SlotNumber, Table, SLOTS, SLOT_NUMBERS};
+use crate::writer::Writer;
 
 /// Calls that are smaller than this one, the smallest first; which of them still differ is for the caller to find out.
 /// Each keeps the verdict, or a frame sent wrongly would end as one for which there is no room.
@@ -37,31 +38,18 @@ fn weight_of(call: &Call) -> (usize, usize, u64, usize) {
     let words = || line.split(' ').skip(1);
     let (size, slots) = match call {
         Call::Write { size, writer, .. } => (*size, writer.setup.slots),
-        Call::Run { reader, .. }
-        | Call::One { reader, .. }
-        | Call::Load { reader, .. }
-        | Call::Ask { reader, .. }
-        | Call::Good { reader } => (0, reader.setup.slots),
-        Call::Fresh(_) | Call::New(_) | Call::Start | Call::Pod { .. } => (0, 0),
+        _ => (0, call.reader().map_or(0, |reader| reader.setup.slots)),
     };
     (words().count() + size, words().filter(|word| !matches!(*word, "0" | "-1")).count(), slots, line.len())
 }
 
 fn candidates(call: &Call, give: &mut dyn FnMut(Call)) {
     match call {
-        Call::Fresh(_) | Call::New(_) | Call::Start => {}
-        Call::Pod { pod, bytes } => {
-            give(Call::Pod { pod: Pod { waits: false, ..*pod }, bytes: bytes.clone() });
-            // One byte at least; the first may be left out where the state after it is given instead.
-            let mut after = *pod;
-            if bytes.len() > 1 && after.take(bytes[0]).is_ok() {
-                give(Call::Pod { pod: after, bytes: bytes[1..].to_vec() });
-            }
-            for part in parts(bytes.len(), 1).into_iter().filter(|part| part.len() < bytes.len()) {
-                let mut bytes = bytes.clone();
-                bytes.drain(part);
-                give(Call::Pod { pod: *pod, bytes });
-            }
+        Call::Fresh(..) | Call::New(_) | Call::Start => {}
+        Call::Pod { pod, bytes } => smaller_pods(*pod, bytes, give),
+        Call::Write { .. } => {
+            smaller_room(call, give);
+            smaller_writers(call, give);
         }
         Call::Good { reader } => {
             smaller_readers(reader, &mut |reader| give(Call::Good { reader }));
@@ -69,25 +57,7 @@ fn candidates(call: &Call, give: &mut dyn FnMut(Call)) {
                 give(Call::Good { reader: reader_without(reader, s) });
             }
         }
-        Call::Run { reader, bytes } => {
-            smaller_readers(reader, &mut |reader| give(Call::Run { reader, bytes: bytes.clone() }));
-            for s in slots_of(&reader.setup) {
-                let ragged = bytes.chunks_exact(RECORD).remainder();
-                let events = events(bytes).flat_map(|event| event_without(event, s).to_bytes());
-                give(Call::Run {
-                    reader: reader_without(reader, s),
-                    bytes: events.chain(ragged.iter().copied()).collect(),
-                });
-            }
-            for part in parts(bytes.len(), RECORD) {
-                let mut bytes = bytes.clone();
-                bytes.drain(part);
-                give(Call::Run { reader: reader.clone(), bytes });
-            }
-            if bytes.len() % RECORD > 1 {
-                give(Call::Run { reader: reader.clone(), bytes: bytes[..bytes.len() - 1].to_vec() });
-            }
-        }
+        Call::Run { reader, bytes } => smaller_runs(reader, bytes, give),
         Call::One { reader, event } => {
             smaller_readers(reader, &mut |reader| give(Call::One { reader, event: *event }));
             for s in slots_of(&reader.setup) {
@@ -100,64 +70,101 @@ fn candidates(call: &Call, give: &mut dyn FnMut(Call)) {
                 give(Call::Ask { reader: reader_without(reader, s), slot: number_without(*slot, s) });
             }
         }
-        Call::Load { reader, current, image } => {
-            smaller_readers(reader, &mut |reader| give(Call::Load { reader, current: *current, image: image.clone() }));
-            for s in slots_of(&reader.setup) {
-                give(Call::Load {
-                    reader: reader_without(reader, s),
-                    current: number_without(*current, s),
-                    image: numbers_without(image, s),
-                });
-            }
-            smaller_numbers(image, -1, &mut |image| {
-                give(Call::Load { reader: reader.clone(), current: *current, image })
-            });
-            give(Call::Load { reader: reader.clone(), current: SlotNumber(0), image: image.clone() });
+        Call::Load { reader, current, image } => smaller_loads(reader, *current, image, give),
+    }
+}
+
+fn smaller_pods(pod: Pod, bytes: &[u8], give: &mut dyn FnMut(Call)) {
+    give(Call::Pod { pod: Pod { waits: false, ..pod }, bytes: bytes.to_vec() });
+    // One byte at least; the first may be left out where the state after it is given instead.
+    let mut after = pod;
+    if bytes.len() > 1 && after.take(bytes[0]).is_ok() {
+        give(Call::Pod { pod: after, bytes: bytes[1..].to_vec() });
+    }
+    for part in parts(bytes.len(), 1).into_iter().filter(|part| part.len() < bytes.len()) {
+        let mut bytes = bytes.to_vec();
+        bytes.drain(part);
+        give(Call::Pod { pod, bytes });
+    }
+}
+
+fn smaller_runs(reader: &Reader, bytes: &[u8], give: &mut dyn FnMut(Call)) {
+    smaller_readers(reader, &mut |reader| give(Call::Run { reader, bytes: bytes.to_vec() }));
+    for s in slots_of(&reader.setup) {
+        let ragged = bytes.chunks_exact(RECORD).remainder();
+        let events = events(bytes).flat_map(|event| event_without(event, s).to_bytes());
+        give(Call::Run { reader: reader_without(reader, s), bytes: events.chain(ragged.iter().copied()).collect() });
+    }
+    for part in parts(bytes.len(), RECORD) {
+        let mut bytes = bytes.to_vec();
+        bytes.drain(part);
+        give(Call::Run { reader: reader.clone(), bytes });
+    }
+    if bytes.len() % RECORD > 1 {
+        give(Call::Run { reader: reader.clone(), bytes: bytes[..bytes.len() - 1].to_vec() });
+    }
+}
+
+fn smaller_loads(reader: &Reader, current: SlotNumber, image: &[i32], give: &mut dyn FnMut(Call)) {
+    let width = reader.layout.slot_numbers();
+    smaller_readers(reader, &mut |reader| give(Call::Load { reader, current, image: image.to_vec() }));
+    for s in slots_of(&reader.setup) {
+        give(Call::Load {
+            reader: reader_without(reader, s),
+            current: number_without(current, s),
+            image: numbers_without(image, width, s),
+        });
+    }
+    smaller_numbers(image, width, -1, &mut |image| give(Call::Load { reader: reader.clone(), current, image }));
+    give(Call::Load { reader: reader.clone(), current: SlotNumber(0), image: image.to_vec() });
+}
+
+/// The same frame at a lower position, or into a smaller buffer.
+fn smaller_room(call: &Call, give: &mut dyn FnMut(Call)) {
+    let Call::Write { writer, position, size, frame } = call else {
+        return;
+    };
+    let mut with = |position: u64, size: usize| {
+        give(Call::Write { writer: writer.clone(), position, size, frame: frame.clone() });
+    };
+    for less in [*position, position / 2, 1] {
+        if less > 0 && less <= *position && less <= *size as u64 {
+            with(position - less, size - less as usize);
         }
-        Call::Write { writer, position, size, frame } => {
-            let with = |position: u64, size: usize, frame: Vec<i32>| Call::Write {
-                writer: writer.clone(),
-                position,
-                size,
-                frame,
-            };
-            smaller_numbers(frame, 0, &mut |frame| give(with(*position, *size, frame)));
-            for less in [*position, position / 2, 1] {
-                if less > 0 && less <= *position && less <= *size as u64 {
-                    give(with(position - less, size - less as usize, frame.clone()));
-                }
-            }
-            for less in [*size, size / 2, 64, 8, 1] {
-                if less > 0 && less <= *size {
-                    give(with(*position, size - less, frame.clone()));
-                }
-            }
-            for s in slots_of(&writer.setup) {
-                let mut writer = writer.clone();
-                take_slot(&mut writer.table, s);
-                writer.setup.slots -= 1;
-                writer.current = number_without(writer.current, s);
-                give(Call::Write { writer, position: *position, size: *size, frame: numbers_without(frame, s) });
-            }
-            // A slot unused in table and frame alike stays quiet; in one of them alone it would begin or lift.
-            for s in 0..SLOTS.min(frame.len() / SLOT_NUMBERS) {
-                let (mut writer, mut frame) = (writer.clone(), frame.clone());
-                writer.table[s] = Slot::UNUSED;
-                frame[row(s)].fill(0);
-                give(Call::Write { writer, position: *position, size: *size, frame });
-            }
-            smaller_tables(&writer.table, &mut |table| {
-                let mut writer = writer.clone();
-                writer.table = table;
-                give(Call::Write { writer, position: *position, size: *size, frame: frame.clone() });
-            });
-            for (current, counter) in [(SlotNumber(0), writer.counter), (writer.current, 0)] {
-                let mut writer = writer.clone();
-                writer.current = current;
-                writer.counter = counter;
-                give(Call::Write { writer, position: *position, size: *size, frame: frame.clone() });
-            }
+    }
+    for less in [*size, size / 2, 64, 8, 1] {
+        if less > 0 && less <= *size {
+            with(*position, size - less);
         }
+    }
+}
+
+/// A smaller state or frame into the same room.
+fn smaller_writers(call: &Call, give: &mut dyn FnMut(Call)) {
+    let Call::Write { writer, position, size, frame } = call else {
+        return;
+    };
+    let mut with = |writer: Writer, frame: Vec<i32>| {
+        give(Call::Write { writer, position: *position, size: *size, frame });
+    };
+    smaller_numbers(frame, SLOT_NUMBERS, 0, &mut |frame| with(writer.clone(), frame));
+    for s in slots_of(&writer.setup) {
+        let mut writer = writer.clone();
+        take_slot(&mut writer.table, s);
+        writer.setup.slots -= 1;
+        writer.current = number_without(writer.current, s);
+        with(writer, numbers_without(frame, SLOT_NUMBERS, s));
+    }
+    // A slot unused in table and frame alike stays quiet; in one of them alone it would begin or lift.
+    for s in 0..SLOTS.min(frame.len() / SLOT_NUMBERS) {
+        let (mut writer, mut frame) = (writer.clone(), frame.clone());
+        writer.table[s] = Slot::UNUSED;
+        frame[row(SLOT_NUMBERS, s)].fill(0);
+        with(writer, frame);
+    }
+    smaller_tables(&writer.table, &mut |table| with(Writer { table, ..writer.clone() }, frame.clone()));
+    for (current, counter) in [(SlotNumber(0), writer.counter), (writer.current, 0)] {
+        with(Writer { current, counter, ..writer.clone() }, frame.clone());
     }
 }
 
@@ -180,11 +187,12 @@ fn parts(length: usize, part: usize) -> Vec<std::ops::Range<usize>> {
     }
 }
 
-/// One slot's four numbers plain, or one number 0 or 1, of a frame or an image.
-fn smaller_numbers(numbers: &[i32], plain: i32, give: &mut dyn FnMut(Vec<i32>)) {
-    for s in 0..numbers.len() / SLOT_NUMBERS {
+/// One slot's numbers plain, or one number 0 or 1, of a frame or an image with so many numbers a slot.
+fn smaller_numbers(numbers: &[i32], width: usize, plain: i32, give: &mut dyn FnMut(Vec<i32>)) {
+    for s in 0..numbers.len() / width {
         let mut fewer = numbers.to_vec();
-        fewer[row(s)].copy_from_slice(&[plain, 0, 0, 0]);
+        fewer[row(width, s)].fill(0);
+        fewer[width * s] = plain;
         give(fewer);
     }
     for i in 0..numbers.len() {
@@ -195,7 +203,7 @@ fn smaller_numbers(numbers: &[i32], plain: i32, give: &mut dyn FnMut(Vec<i32>)) 
             give(fewer);
         }
     }
-    if numbers.len() % SLOT_NUMBERS != 0 || numbers.len() > SLOTS * SLOT_NUMBERS {
+    if numbers.len() % width != 0 || numbers.len() > SLOTS * width {
         give(numbers[..numbers.len() - 1].to_vec());
     }
 }
@@ -215,11 +223,13 @@ fn smaller_readers(reader: &Reader, give: &mut dyn FnMut(Reader)) {
 
 fn smaller_tables(table: &Table, give: &mut dyn FnMut(Table)) {
     for s in 0..table.len() {
-        let slot = table[s];
-        for fewer in [Slot::UNUSED, Slot { x: 0, ..slot }, Slot { y: 0, ..slot }, Slot { pressure: 0, ..slot }] {
-            let mut table = *table;
-            table[s] = fewer;
-            give(table);
+        let mut fewer = *table;
+        fewer[s] = Slot::UNUSED;
+        give(fewer);
+        for i in 0..table[s].numbers.len() {
+            let mut fewer = *table;
+            fewer[s].numbers[i] = 0;
+            give(fewer);
         }
     }
 }
@@ -227,8 +237,9 @@ fn smaller_tables(table: &Table, give: &mut dyn FnMut(Table)) {
 /// The slots of which one may be taken out, so that one is left.
 fn slots_of(setup: &Setup) -> std::ops::Range<usize> {
     match setup.slots {
-        n @ 2..=16 => 0..n as usize,
-        _ => 0..0,
+        0 | 1 => 0..0,
+        n if n > SLOTS as u64 => 0..0,
+        n => 0..n as usize,
     }
 }
 
@@ -257,17 +268,17 @@ fn event_without(event: Event, s: usize) -> Event {
     event
 }
 
-fn numbers_without(numbers: &[i32], s: usize) -> Vec<i32> {
+fn numbers_without(numbers: &[i32], width: usize, s: usize) -> Vec<i32> {
     let mut fewer = numbers.to_vec();
-    if fewer.len() >= row(s).end {
-        fewer.drain(row(s));
+    if fewer.len() >= row(width, s).end {
+        fewer.drain(row(width, s));
     }
     fewer
 }
 
-/// Where the numbers of a slot stand in a frame or an image.
-fn row(s: usize) -> std::ops::Range<usize> {
-    SLOT_NUMBERS * s..SLOT_NUMBERS * (s + 1)
+/// Where the numbers of a slot stand in a frame or an image with so many numbers a slot.
+fn row(width: usize, s: usize) -> std::ops::Range<usize> {
+    width * s..width * (s + 1)
 }
 
 #[cfg(test)]
@@ -275,6 +286,7 @@ mod tests {
     use super::*;
     use crate::brief::shorten;
     use crate::maker::Maker;
+    use crate::table::X;
 
     /// A reader that clears x where an id changes, found by its answer to a run: shrunk from a long call, one finger and one event are left.
     #[test]
@@ -284,7 +296,11 @@ mod tests {
                 let mut reader = reader.clone();
                 let before = reader.clone();
                 reader.run(bytes).is_ok()
-                    && reader.pending.iter().zip(before.pending).any(|(now, then)| now.id != then.id && then.x > 0)
+                    && reader
+                        .pending
+                        .iter()
+                        .zip(before.pending)
+                        .any(|(now, then)| now.id != then.id && then.numbers[X] > 0)
             }
             _ => false,
         };

@@ -1,15 +1,58 @@
-//! A panel's setup, the sixteen slot records, and what makes them well formed.
+//! A panel's setup, the slot records, and what makes them well formed.
 
 /// How many records a table holds, whatever the panel's n.
 pub const SLOTS: usize = 16;
-/// How many numbers tell of one slot: id, x, y and pressure; in a frame the kind stands for the id.
-pub const SLOT_NUMBERS: usize = 4;
-/// The largest x and y may be this at most.
-pub const LARGEST_POSITION: u32 = 32_767;
-/// The largest pressure may be this at most.
-pub const LARGEST_PRESSURE: u32 = 255;
+/// How many numbers a slot has besides its id.
+pub const NUMBERS: usize = 5;
+/// How many numbers tell of one slot: its id and those; in a frame the kind stands for the id.
+pub const SLOT_NUMBERS: usize = 1 + NUMBERS;
+
+/// Where each of a slot's numbers stands, in the order in which they are sent.
+pub const X: usize = 0;
+pub const Y: usize = 1;
+pub const PRESSURE: usize = 2;
+/// The two touch sizes.
+pub const MAJOR: usize = 3;
+pub const MINOR: usize = 4;
+
+/// The largest values may be these at most.
+pub const LIMITS: [u32; NUMBERS] = [32_767, 32_767, 255, 255, 255];
 /// Behind this id comes 0 again.
 pub const LARGEST_ID: u32 = 65_535;
+
+/// Whose a reader is: the panel's, or that of a crane in the field, which keeps document 01's four numbers and sixteen slots.
+/// What a crane does not know is 0 in its setup and its tables, so that one type holds both.
+#[derive(Clone, Copy, PartialEq, Eq, Debug)]
+pub enum Layout {
+    Panel,
+    Crane,
+}
+
+impl Layout {
+    /// Both of them.
+    pub const ALL: [Layout; 2] = [Layout::Panel, Layout::Crane];
+
+    /// How many records a table has.
+    pub const fn slots(self) -> usize {
+        match self {
+            Layout::Panel => SLOTS,
+            Layout::Crane => 16,
+        }
+    }
+
+    /// How many numbers a slot has besides its id.
+    pub const fn numbers(self) -> usize {
+        match self {
+            Layout::Panel => NUMBERS,
+            Layout::Crane => 3,
+        }
+    }
+
+    /// How many numbers tell of one slot.
+    pub const fn slot_numbers(self) -> usize {
+        1 + self.numbers()
+    }
+}
 
 /// A slot number; its own type so that it cannot be taken for a tracking id.
 #[derive(Clone, Copy, PartialEq, Eq, Debug)]
@@ -33,26 +76,30 @@ impl TrackingId {
     }
 }
 
-/// What a panel is set up with.
+/// What a panel is set up with: n, and the largest of each of a slot's numbers.
 /// The numbers are wider than their ranges, here and in every state: a state that is not well formed must be possible, or refusal 2 could not be judged.
 #[derive(Clone, Copy, PartialEq, Eq, Debug)]
 pub struct Setup {
     pub slots: u64,
-    pub largest_x: u32,
-    pub largest_y: u32,
-    pub largest_pressure: u32,
+    pub largest: [u32; NUMBERS],
 }
 
 impl Setup {
     /// The setup's place in an answer with refusal 1.
-    pub const ZEROS: Setup = Setup { slots: 0, largest_x: 0, largest_y: 0, largest_pressure: 0 };
+    pub const ZEROS: Setup = Setup { slots: 0, largest: [0; NUMBERS] };
 
     /// Whether each number is in its range; refusal 1 where one is not.
-    pub fn is_good(&self) -> bool {
-        (1..=SLOTS as u64).contains(&self.slots)
-            && (1..=LARGEST_POSITION).contains(&self.largest_x)
-            && (1..=LARGEST_POSITION).contains(&self.largest_y)
-            && (1..=LARGEST_PRESSURE).contains(&self.largest_pressure)
+    pub fn is_good(&self, layout: Layout) -> bool {
+        let (known, others) = self.largest.split_at(layout.numbers());
+        (1..=layout.slots() as u64).contains(&self.slots)
+            && known.iter().zip(LIMITS).all(|(largest, limit)| (1..=limit).contains(largest))
+            && others.iter().all(|largest| *largest == 0)
+    }
+
+    /// The same panel's setup as far as such a reader knows it.
+    pub fn known_to(mut self, layout: Layout) -> Setup {
+        self.largest[layout.numbers()..].fill(0);
+        self
     }
 }
 
@@ -60,34 +107,36 @@ impl Setup {
 #[derive(Clone, Copy, PartialEq, Eq, Debug)]
 pub struct Slot {
     pub id: TrackingId,
-    pub x: u32,
-    pub y: u32,
-    pub pressure: u32,
+    pub numbers: [u32; NUMBERS],
 }
 
 impl Slot {
     /// As every record is at the start, and those from n upward always.
-    pub const UNUSED: Slot = Slot { id: TrackingId::UNUSED, x: 0, y: 0, pressure: 0 };
+    pub const UNUSED: Slot = Slot { id: TrackingId::UNUSED, numbers: [0; NUMBERS] };
+
+    /// The same slot as far as such a reader knows it.
+    pub fn known_to(mut self, layout: Layout) -> Slot {
+        self.numbers[layout.numbers()..].fill(0);
+        self
+    }
 }
 
-/// The sixteen records.
+/// The records.
 pub type Table = [Slot; SLOTS];
 
 /// The table of a fresh state.
 pub const EMPTY: Table = [Slot::UNUSED; SLOTS];
 
-/// A table's place in an answer with refusal 1: no table of a state, since id 0 would be live sixteen times.
-pub const ZERO_TABLE: Table = [Slot { id: TrackingId(0), x: 0, y: 0, pressure: 0 }; SLOTS];
+/// A table's place in an answer with refusal 1: no table of a state, since id 0 would be live in every slot.
+pub const ZERO_TABLE: Table = [Slot { id: TrackingId(0), numbers: [0; NUMBERS] }; SLOTS];
 
 /// Every number in its range, and the records from n upward unused. The setup must be good.
 pub fn is_good_table(setup: &Setup, table: &Table) -> bool {
     let (used, rest) = table.split_at(setup.slots as usize);
-    used.iter().all(|slot| {
-        slot.id.is_good()
-            && slot.x <= setup.largest_x
-            && slot.y <= setup.largest_y
-            && slot.pressure <= setup.largest_pressure
-    }) && rest.iter().all(|slot| *slot == Slot::UNUSED)
+    let is_good = |slot: &Slot| {
+        slot.id.is_good() && slot.numbers.iter().zip(&setup.largest).all(|(number, largest)| number <= largest)
+    };
+    used.iter().all(is_good) && rest.iter().all(|slot| *slot == Slot::UNUSED)
 }
 
 /// Whether no live id stands twice.
@@ -124,22 +173,36 @@ pub fn id_in_range(value: i32) -> Option<TrackingId> {
 mod tests {
     use super::*;
 
-    const PANEL: Setup = Setup { slots: 2, largest_x: 4000, largest_y: 4000, largest_pressure: 255 };
+    const PANEL: Setup = Setup { slots: 2, largest: [4000, 4000, 255, 255, 255] };
 
     #[test]
     fn setup_ranges() {
-        for (slots, good) in [(0, false), (1, true), (16, true), (17, false), (200, false)] {
-            assert_eq!(Setup { slots, ..PANEL }.is_good(), good, "n {slots}");
+        for layout in Layout::ALL {
+            let panel = PANEL.known_to(layout);
+            let most = layout.slots() as u64;
+            for (slots, good) in [(0, false), (1, true), (most, true), (most + 1, false), (200, false)] {
+                assert_eq!(Setup { slots, ..panel }.is_good(layout), good, "n {slots}");
+            }
+            // 2^32 + 2 would pass where n is cut to 32 bits.
+            assert!(!Setup { slots: (1 << 32) + 2, ..panel }.is_good(layout));
+            for (i, limit) in LIMITS.into_iter().enumerate().take(layout.numbers()) {
+                for (largest, good) in [(0, false), (1, true), (limit, true), (limit + 1, false)] {
+                    let mut setup = panel;
+                    setup.largest[i] = largest;
+                    assert_eq!(setup.is_good(layout), good, "number {i}, {largest}");
+                }
+            }
         }
-        // 2^32 + 2 would pass where n is cut to 32 bits.
-        assert!(!Setup { slots: (1 << 32) + 2, ..PANEL }.is_good());
-        for (largest, good) in [(0, false), (1, true), (32_767, true), (32_768, false)] {
-            assert_eq!(Setup { largest_x: largest, ..PANEL }.is_good(), good);
-            assert_eq!(Setup { largest_y: largest, ..PANEL }.is_good(), good);
-        }
-        for (largest, good) in [(0, false), (1, true), (255, true), (256, false)] {
-            assert_eq!(Setup { largest_pressure: largest, ..PANEL }.is_good(), good);
-        }
+    }
+
+    /// A setup of the panel's is none of a crane's as it stands.
+    #[test]
+    fn what_a_crane_knows() {
+        assert!(!PANEL.is_good(Layout::Crane) && !PANEL.known_to(Layout::Crane).is_good(Layout::Panel));
+        assert_eq!(PANEL.known_to(Layout::Crane).largest, [4000, 4000, 255, 0, 0]);
+        assert_eq!(PANEL.known_to(Layout::Panel), PANEL);
+        let slot = Slot { id: TrackingId(3), numbers: [1, 2, 3, 4, 5] };
+        assert_eq!(slot.known_to(Layout::Crane), Slot { id: TrackingId(3), numbers: [1, 2, 3, 0, 0] });
     }
 
     #[test]

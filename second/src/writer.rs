@@ -44,7 +44,7 @@ impl Writer {
 
     /// The state at the start; refusal 1.
     pub fn fresh(setup: Setup) -> Result<Writer, Refusal> {
-        if !setup.is_good() {
+        if !setup.is_good(Layout::Panel) {
             return Err(Refusal::Setup);
         }
         Ok(Writer { setup, current: SlotNumber(0), counter: 0, table: EMPTY })
@@ -52,7 +52,7 @@ impl Writer {
 
     /// Whether [`Writer::write`] takes this state; refusal 2 where it is not.
     pub fn is_well_formed(&self) -> bool {
-        self.setup.is_good()
+        self.setup.is_good(Layout::Panel)
             && self.current.0 < self.setup.slots
             && self.counter <= LARGEST_ID
             && is_good_table(&self.setup, &self.table)
@@ -91,25 +91,17 @@ impl Writer {
             let new = match wanted[0] {
                 0 => Slot { id: TrackingId::UNUSED, ..old },
                 kind @ (1 | 2) => {
-                    let x = in_range(wanted[1], self.setup.largest_x)?;
-                    let y = in_range(wanted[2], self.setup.largest_y)?;
-                    // K8: a live finger presses.
-                    let pressure = in_range(wanted[3], self.setup.largest_pressure).filter(|pressure| *pressure > 0)?;
-                    let id = if kind == 1 && old.id.is_live() {
-                        old.id
-                    } else {
+                    let mut new = Slot { numbers: self.wanted_numbers(&wanted[1..])?, ..old };
+                    if kind == 2 || !old.id.is_live() {
                         let id = self.first_free(counter, &table[..s]);
                         counter = after(id);
-                        TrackingId(id as i32)
-                    };
-                    Slot { id, x, y, pressure }
+                        new.id = TrackingId(id as i32);
+                    }
+                    new
                 }
                 _ => return None,
             };
-            let differing = u32::from(new.id != old.id)
-                + u32::from(new.x != old.x)
-                + u32::from(new.y != old.y)
-                + u32::from(new.pressure != old.pressure);
+            let differing = changes(&old, &new);
             numbers += differing;
             changed |= u16::from(differing != 0) << s;
             table[s] = new;
@@ -122,6 +114,16 @@ impl Writer {
             numbers + changed.count_ones() - without_slot + 1
         };
         Some(Plan { table, counter, written: Written { events, changed } })
+    }
+
+    /// The numbers of a contact in a frame; `None` where one is out of its range.
+    fn wanted_numbers(&self, wanted: &[i32]) -> Option<[u32; NUMBERS]> {
+        let mut numbers = [0; NUMBERS];
+        for (i, number) in numbers.iter_mut().enumerate() {
+            *number = in_range(wanted[i], self.setup.largest[i])?;
+        }
+        // K8: a live finger presses.
+        (numbers[PRESSURE] > 0).then_some(numbers)
     }
 
     /// `so_far` holds the new slots below the one that asks. Besides the ids given in this frame it holds kept ones, which are live in the old table anyway.
@@ -155,14 +157,10 @@ impl Writer {
             if new.id != old.id {
                 put(Event::abs(ABS_MT_TRACKING_ID, new.id.0));
             }
-            if new.x != old.x {
-                put(Event::abs(ABS_MT_POSITION_X, new.x as i32));
-            }
-            if new.y != old.y {
-                put(Event::abs(ABS_MT_POSITION_Y, new.y as i32));
-            }
-            if new.pressure != old.pressure {
-                put(Event::abs(ABS_MT_PRESSURE, new.pressure as i32));
+            for (i, code) in CODES.into_iter().enumerate() {
+                if new.numbers[i] != old.numbers[i] {
+                    put(Event::abs(code, new.numbers[i] as i32));
+                }
             }
         };
         let current = self.current.0 as usize;
@@ -180,6 +178,12 @@ impl Writer {
         debug_assert!(places.next().is_none());
         self.current = SlotNumber(last as u64);
     }
+}
+
+/// How many numbers of a slot differ, its id among them.
+fn changes(old: &Slot, new: &Slot) -> u32 {
+    let numbers = old.numbers.iter().zip(&new.numbers).filter(|(old, new)| old != new).count();
+    u32::from(old.id != new.id) + numbers as u32
 }
 
 fn after(id: u32) -> u32 {

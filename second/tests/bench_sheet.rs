@@ -5,11 +5,11 @@ mod common;
 use common::*;
 use second::events::Event;
 use second::pod::{Pod, Report, Stick};
-use second::programs::show_table;
+use second::programs::{crane_table, show_table};
 use second::reader::Reader;
 use second::refusal::Refusal;
 use second::streams::Status;
-use second::table::{SlotNumber, TrackingId};
+use second::table::{Layout, SlotNumber, TrackingId};
 use second::writer::{Writer, Written};
 
 const P1: [u8; 40] = [
@@ -25,7 +25,7 @@ fn p1_to_p7_each_after_the_row_before() {
     let mut writer = Writer::fresh(panel(2)).unwrap();
 
     let mut buffer = [0; 40];
-    let written = writer.write(&[1, 100, 200, 30, 0, 0, 0, 0], &mut buffer, 0);
+    let written = writer.write(&[1, 100, 200, 30, 0, 0, 0, 0, 0, 0, 0, 0], &mut buffer, 0);
     assert_eq!(written, Ok(Written { events: 5, changed: 0b01 }));
     assert_eq!(buffer, P1);
 
@@ -37,29 +37,36 @@ fn p1_to_p7_each_after_the_row_before() {
         writer.clone()
     };
     // P2
-    row(&[1, 100, 200, 30, 1, 300, 400, 30], &["SLOT 1", "ID 1", "X 300", "Y 400", "PRESSURE 30", "REPORT"], 0b10);
+    row(
+        &[1, 100, 200, 30, 0, 0, 1, 300, 400, 30, 0, 0],
+        &["SLOT 1", "ID 1", "X 300", "Y 400", "PRESSURE 30", "REPORT"],
+        0b10,
+    );
     // P3
-    row(&[1, 101, 200, 30, 1, 300, 401, 30], &["Y 401", "SLOT 0", "X 101", "REPORT"], 0b11);
+    row(&[1, 101, 200, 30, 0, 0, 1, 300, 401, 30, 0, 0], &["Y 401", "SLOT 0", "X 101", "REPORT"], 0b11);
     // P4: the lifted slot's numbers in the frame are ignored.
-    let after = row(&[0, -7, -7, -7, 1, 300, 401, 30], &["ID -1", "REPORT"], 0b01);
+    let after = row(&[0, -7, -7, -7, 0, 0, 1, 300, 401, 30, 0, 0], &["ID -1", "REPORT"], 0b01);
     assert_eq!(after.table[0], slot(-1, 101, 200, 30));
     // P5
-    row(&[1, 101, 200, 30, 1, 300, 401, 30], &["ID 2", "REPORT"], 0b01);
+    row(&[1, 101, 200, 30, 0, 0, 1, 300, 401, 30, 0, 0], &["ID 2", "REPORT"], 0b01);
     // P6
-    let after = row(&[2, 101, 200, 30, 1, 300, 401, 30], &["ID 3", "REPORT"], 0b01);
+    let after = row(&[2, 101, 200, 30, 0, 0, 1, 300, 401, 30, 0, 0], &["ID 3", "REPORT"], 0b01);
     assert_eq!(after.counter, 4);
     assert_eq!(after.table, table(&[slot(3, 101, 200, 30), slot(1, 300, 401, 30)]));
     // P7, into a buffer of length 0
     let before = after.clone();
     let mut writer = after;
-    assert_eq!(writer.write(&[1, 101, 200, 30, 1, 300, 401, 30], &mut [], 0), Ok(Written { events: 0, changed: 0 }));
+    assert_eq!(
+        writer.write(&[1, 101, 200, 30, 0, 0, 1, 300, 401, 30, 0, 0], &mut [], 0),
+        Ok(Written { events: 0, changed: 0 })
+    );
     assert_eq!(writer, before);
 }
 
 #[test]
 fn p8_the_counter_wraps_past_a_live_id() {
     let mut writer = writer(0, 65_535, &[slot(-1, 0, 0, 0), slot(0, 5, 5, 5), slot(-1, 0, 0, 0)]);
-    write(&mut writer, &[1, 1, 1, 1, 1, 5, 5, 5, 1, 2, 2, 2]).unwrap();
+    write(&mut writer, &[1, 1, 1, 1, 0, 0, 1, 5, 5, 5, 0, 0, 1, 2, 2, 2, 0, 0]).unwrap();
     assert_eq!(writer.table[0].id, TrackingId(65_535));
     assert_eq!(writer.table[2].id, TrackingId(1));
     assert_eq!(writer.counter, 2);
@@ -95,26 +102,29 @@ fn p9_and_the_pod_run_cases() {
 #[test]
 fn run_the_small_program_on_p1() {
     let mut input = Vec::new();
-    for number in [2u32, 4000, 4000, 255] {
+    for number in [2u32, 4000, 4000, 255, 255, 255] {
         input.extend(number.to_le_bytes());
     }
     input.extend(P1);
     let mut out = Vec::new();
     assert_eq!(show_table(&input[..], &mut out, std::io::sink()), Status::Accepted);
+    assert_eq!(String::from_utf8(out).unwrap(), "following 0\n0 0 100 200 30 0 0\n1 -1 0 0 0 0 0\n");
+    let mut out = Vec::new();
+    assert_eq!(crane_table(&input[..], &mut out, std::io::sink()), Status::Accepted);
     assert_eq!(String::from_utf8(out).unwrap(), "following 0\n0 0 100 200 30\n1 -1 0 0 0\n");
 }
 
 #[test]
 fn run_a_replaced_id_is_not_free() {
     let mut writer = writer(0, 7, &[slot(7, 10, 20, 30)]);
-    let (events, _) = write(&mut writer, &[2, 10, 20, 30]).unwrap();
+    let (events, _) = write(&mut writer, &[2, 10, 20, 30, 0, 0]).unwrap();
     assert_eq!(events, ["ID 8", "REPORT"]);
     assert_eq!(writer.counter, 9);
 }
 
 #[test]
 fn run_p2_with_47_and_with_48_bytes_left() {
-    let frame = [1, 100, 200, 30, 1, 300, 400, 30];
+    let frame = [1, 100, 200, 30, 0, 0, 1, 300, 400, 30, 0, 0];
     let after_p1 = writer(0, 1, &[slot(0, 100, 200, 30), slot(-1, 0, 0, 0)]);
     let mut writer = after_p1.clone();
     let mut buffer = [9; 60];
@@ -131,7 +141,7 @@ fn run_p2_with_47_and_with_48_bytes_left() {
 #[test]
 fn run_n_0_1_16_17() {
     for (n, good) in [(0, false), (1, true), (16, true), (17, false)] {
-        let (reader, writer) = (Reader::fresh(panel(n)), Writer::fresh(panel(n)));
+        let (reader, writer) = (Reader::fresh(Layout::Panel, panel(n)), Writer::fresh(panel(n)));
         assert_eq!(reader.is_ok(), good);
         assert_eq!(writer.is_ok(), good);
         if !good {

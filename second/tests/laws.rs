@@ -7,7 +7,7 @@ use second::events::*;
 use second::maker::Maker;
 use second::reader::{Mode, Ran, Reader};
 use second::script::Call;
-use second::table::{Slot, TrackingId};
+use second::table::{Layout, Slot, TrackingId, SLOTS};
 use second::writer::{Writer, LARGEST_FRAME, MOST_EVENTS};
 
 fn calls(seed: u64, count: usize) -> Vec<Call> {
@@ -19,7 +19,7 @@ fn calls(seed: u64, count: usize) -> Vec<Call> {
 fn asked(before: &Slot, wanted: &[i32]) -> Slot {
     match wanted[0] {
         0 => Slot { id: TrackingId::UNUSED, ..*before },
-        _ => Slot { id: before.id, x: wanted[1] as u32, y: wanted[2] as u32, pressure: wanted[3] as u32 },
+        _ => Slot { id: before.id, numbers: [1, 2, 3, 4, 5].map(|i| wanted[i] as u32) },
     }
 }
 
@@ -49,7 +49,7 @@ fn frames() {
         // The ids, chosen by a search that keeps every number that is taken.
         let mut taken: Vec<i32> = writer.table.iter().map(|slot| slot.id.0).collect();
         let mut counter = writer.counter as i32;
-        for (s, wanted) in frame.chunks(4).enumerate() {
+        for (s, wanted) in frame.chunks(6).enumerate() {
             let before = &writer.table[s];
             let mut expected = asked(before, wanted);
             if wanted[0] == 2 || (wanted[0] == 1 && before.id.0 == -1) {
@@ -67,6 +67,7 @@ fn frames() {
 
         // A reader that saw the old table sees the new one.
         let mut reader = Reader {
+            layout: Layout::Panel,
             setup: writer.setup,
             current: writer.current,
             mode: Mode::Following,
@@ -80,15 +81,12 @@ fn frames() {
         assert_eq!(reader.current, after.current);
 
         // The fewest events: what changed, a SLOT for each changed slot but the current one, a report.
-        let changed = (0..16).filter(|s| after.table[*s] != writer.table[*s]);
+        let changed = (0..SLOTS).filter(|s| after.table[*s] != writer.table[*s]);
         let slots = changed.clone().count();
         let numbers: usize = changed
             .map(|s| {
                 let (a, b) = (after.table[s], writer.table[s]);
-                usize::from(a.id != b.id)
-                    + usize::from(a.x != b.x)
-                    + usize::from(a.y != b.y)
-                    + usize::from(a.pressure != b.pressure)
+                usize::from(a.id != b.id) + (0..5).filter(|i| a.numbers[*i] != b.numbers[*i]).count()
             })
             .sum();
         let current = writer.current.0 as usize;
@@ -134,20 +132,20 @@ fn runs_are_their_records_one_after_the_other() {
         let unknown_type = |pair: &&(u16, u16)| pair.0 != 0 && pair.0 != 3;
         assert_eq!(ran.unknown_type as usize, skipped.iter().filter(unknown_type).count());
         assert_eq!(ran.skipped() as usize, skipped.len());
-        assert!(skipped.iter().all(|pair| !LISTED.contains(pair)));
+        assert!(skipped.iter().all(|pair| !listed(reader.layout).contains(pair)));
     }
 }
 
 #[test]
-fn all_sixteen_slots_land_in_eighty_events() {
-    let setup = common::panel(16);
+fn all_slots_land_in_the_most_events() {
+    let setup = common::panel(SLOTS as u64);
     let mut writer = Writer::fresh(setup).unwrap();
-    let frame = [1, 1, 1, 1].repeat(16);
+    let frame = [1, 1, 1, 1, 1, 1].repeat(SLOTS);
     let mut buffer = [0; LARGEST_FRAME];
-    assert_eq!(MOST_EVENTS, 80);
-    assert_eq!(writer.write(&frame, &mut buffer, 0).unwrap().events, 80);
-    let mut reader = Reader::fresh(setup).unwrap();
+    assert_eq!((MOST_EVENTS, LARGEST_FRAME), (112, 896));
+    assert_eq!(writer.write(&frame, &mut buffer, 0).unwrap().events as usize, MOST_EVENTS);
+    let mut reader = Reader::fresh(Layout::Panel, setup).unwrap();
     reader.run(&buffer).unwrap();
     assert_eq!(reader.shown, writer.table);
-    assert_eq!(bytes(&[Event::REPORT]), buffer[632..]);
+    assert_eq!(bytes(&[Event::REPORT]), buffer[LARGEST_FRAME - RECORD..]);
 }

@@ -7,7 +7,7 @@ use second::events::*;
 use second::pod::{Pod, Report};
 use second::reader::{Asked, Mode, Ran, Reader};
 use second::refusal::Refusal;
-use second::table::SlotNumber;
+use second::table::{SlotNumber, PRESSURE};
 use second::writer::{Written, LARGEST_FRAME};
 
 /// The answers to a string of bytes from this state, and the state after it.
@@ -63,22 +63,25 @@ fn event(kind: u16, code: u16) -> Event {
     Event { kind, code, value: 1 }
 }
 
-/// K4: why each type and code is skipped, over every type with the listed codes and every code of the known types.
+/// K4: why each type and code is skipped, over every type with the listed codes and every code of the known types; a crane skips two more.
 #[test]
 fn why_a_record_is_skipped() {
-    let types = (0..=u16::MAX).flat_map(|kind| [0, 2, 3, 0x2f, 0x35, 0x3a].map(|code| (kind, code)));
+    let types = (0..=u16::MAX).flat_map(|kind| [0, 2, 3, 0x2f, 0x30, 0x35, 0x3a].map(|code| (kind, code)));
     let codes = (0..=u16::MAX).flat_map(|code| [(0, code), (3, code)]);
-    let reader = following(0, &[slot(0, 1, 1, 1), slot(1, 1, 1, 1)]);
-    for (kind, code) in types.chain(codes) {
-        let ran = reader.clone().one(event(kind, code)).unwrap();
-        let is_known = kind == 0 || kind == 3;
-        let expected = if LISTED.contains(&(kind, code)) {
-            (0, 0, None)
-        } else {
-            (u64::from(!is_known), u64::from(is_known), Some((kind, code)))
-        };
-        assert_eq!((ran.unknown_type, ran.unknown_code, ran.first_skipped), expected, "{kind} {code}");
-        assert_eq!(ran.bad + ran.ignored, 0);
+    let pairs: Vec<(u16, u16)> = types.chain(codes).collect();
+    let slots = [slot(0, 1, 1, 1), slot(1, 1, 1, 1)];
+    for reader in [following(0, &slots), crane(0, &slots)] {
+        for (kind, code) in &pairs {
+            let ran = reader.clone().one(event(*kind, *code)).unwrap();
+            let is_known = matches!(kind, 0 | 3);
+            let expected = if listed(reader.layout).contains(&(*kind, *code)) {
+                (0, 0, None)
+            } else {
+                (u64::from(!is_known), u64::from(is_known), Some((*kind, *code)))
+            };
+            assert_eq!((ran.unknown_type, ran.unknown_code, ran.first_skipped), expected, "{kind} {code}");
+            assert_eq!(ran.bad + ran.ignored, 0);
+        }
     }
 }
 
@@ -86,11 +89,11 @@ fn why_a_record_is_skipped() {
 #[test]
 fn the_first_skipped_is_named() {
     let ran = |events: &[Event]| following(0, &[slot(-1, 0, 0, 0)]).run(&bytes(events)).unwrap();
-    let (touch, mt, size) = (event(1, 330), event(0, 2), event(3, 0x30));
+    let (touch, mt, size) = (event(1, 330), event(0, 2), event(3, 0x32));
     for (events, first) in [
         (&[touch, mt, size][..], (1, 330)),
         (&[mt, touch, size], (0, 2)),
-        (&[Event::REPORT, size, Event::REPORT, touch, Event::REPORT, mt], (3, 0x30)),
+        (&[Event::REPORT, size, Event::REPORT, touch, Event::REPORT, mt], (3, 0x32)),
     ] {
         let all = ran(events);
         assert_eq!((all.unknown_type, all.unknown_code, all.skipped()), (1, 2, 3));
@@ -131,7 +134,8 @@ fn pressed(first: [i32; 4], second: [i32; 4], size: usize) -> Result<Written, Re
     let mut writer = writer(0, 2, &[slot(0, 100, 200, 30), slot(-1, 300, 400, 0)]);
     let before = writer.clone();
     let mut buffer = [7; LARGEST_FRAME];
-    let written = writer.write(&[first, second].concat(), &mut buffer[..size], 0);
+    let frame = [first, second].map(|[kind, x, y, pressure]| [kind, x, y, pressure, 0, 0]).concat();
+    let written = writer.write(&frame, &mut buffer[..size], 0);
     if written.is_err() {
         assert_eq!((writer, buffer), (before, [7; LARGEST_FRAME]));
     }
@@ -154,7 +158,7 @@ fn a_contact_of_pressure_0_is_a_bad_value() {
     let mut writer = writer(0, 2, &[slot(0, 100, 200, 30)]);
     assert_eq!(writer.write(&[1, 100, 200, 0, 0], &mut [], 0), Err(Refusal::Frame));
     writer.counter = 65_536;
-    assert_eq!(writer.write(&[1, 100, 200, 0], &mut [], 0), Err(Refusal::State));
+    assert_eq!(writer.write(&[1, 100, 200, 0, 0, 0], &mut [], 0), Err(Refusal::State));
 }
 
 /// K8: the least pressure is 1, and the least x and y are 0 as before.
@@ -166,8 +170,8 @@ fn a_contact_of_pressure_1_is_good() {
     assert_eq!(pressed(GOES_ON, [1, 300, 400, 1], LARGEST_FRAME), written(4, 0b10));
     // The largest is the least.
     let mut writer = writer(0, 0, &[slot(-1, 0, 0, 0)]);
-    writer.setup.largest_pressure = 1;
-    assert_eq!(write(&mut writer, &[1, 0, 0, 1]).unwrap().0, ["ID 0", "PRESSURE 1", "REPORT"]);
+    writer.setup.largest[PRESSURE] = 1;
+    assert_eq!(write(&mut writer, &[1, 0, 0, 1, 0, 0]).unwrap().0, ["ID 0", "PRESSURE 1", "REPORT"]);
 }
 
 /// K8: no contact has no pressure to be judged.
@@ -183,16 +187,16 @@ fn a_live_slot_of_pressure_0_is_well_formed() {
     let old = writer(0, 6, &[slot(5, 100, 200, 0)]);
     assert!(old.is_well_formed());
     for (frame, sent, after) in [
-        ([0, 100, 200, 0], &["ID -1", "REPORT"][..], slot(-1, 100, 200, 0)),
-        ([1, 100, 200, 1], &["PRESSURE 1", "REPORT"], slot(5, 100, 200, 1)),
-        ([2, 100, 200, 9], &["ID 6", "PRESSURE 9", "REPORT"], slot(6, 100, 200, 9)),
+        ([0, 100, 200, 0, 0, 0], &["ID -1", "REPORT"][..], slot(-1, 100, 200, 0)),
+        ([1, 100, 200, 1, 0, 0], &["PRESSURE 1", "REPORT"], slot(5, 100, 200, 1)),
+        ([2, 100, 200, 9, 0, 0], &["ID 6", "PRESSURE 9", "REPORT"], slot(6, 100, 200, 9)),
     ] {
         let mut writer = old.clone();
         assert_eq!(write(&mut writer, &frame).unwrap().0, sent);
         assert_eq!(writer.table[0], after);
     }
     for kind in [1, 2] {
-        assert_eq!(write(&mut old.clone(), &[kind, 100, 200, 0]), Err(Refusal::Value));
+        assert_eq!(write(&mut old.clone(), &[kind, 100, 200, 0, 0, 0]), Err(Refusal::Value));
     }
 }
 
@@ -204,7 +208,7 @@ fn a_reader_takes_pressure_0() {
     assert_eq!(reader.run(&none), Ok(Ran { shown: 1, ..Ran::NOTHING }));
     assert_eq!(reader, following(0, &[slot(5, 100, 200, 0)]));
     let mut stale = Reader { mode: Mode::Stale, ..reader.clone() };
-    assert_eq!(stale.load(&[5, 100, 200, 0], SlotNumber(0)), Ok(()));
+    assert_eq!(stale.load(&[5, 100, 200, 0, 0, 0], SlotNumber(0)), Ok(()));
     assert_eq!(stale, reader);
     assert_eq!(reader.ask(SlotNumber(0)), Ok(Asked::Contact(slot(5, 100, 200, 0))));
 }

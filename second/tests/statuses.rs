@@ -5,7 +5,8 @@ use std::io::Write;
 use std::process::{Command, Output, Stdio};
 use std::sync::{Mutex, MutexGuard, PoisonError};
 
-const SETUP: [u8; 16] = [1, 0, 0, 0, 9, 0, 0, 0, 9, 0, 0, 0, 9, 0, 0, 0];
+const SETUP: [u8; 24] = [1, 0, 0, 0, 9, 0, 0, 0, 9, 0, 0, 0, 9, 0, 0, 0, 9, 0, 0, 0, 9, 0, 0, 0];
+const PROGRAMS: [&str; 5] = ["show_table", "crane_table", "write_frames", "show_pod", "drive"];
 
 /// Tests take turns: a process that another one has just begun still holds the pipes of this one, and a closed one would not be closed.
 fn turn() -> MutexGuard<'static, ()> {
@@ -39,14 +40,17 @@ fn check(output: &Output, status: i32, err: &str) {
 fn accepted_and_refused() {
     let _turn = turn();
     let run = |program: &str, bytes: &[u8]| output(&mut second(&[program]), bytes).status.code();
-    let frame = |kind: u8| [&SETUP[..], &[kind, 0, 0, 0], &[0; 8], &[1, 0, 0, 0]].concat();
-    assert_eq!(run("show_table", &SETUP), Some(0));
-    assert_eq!(run("show_table", &SETUP[..15]), Some(1));
+    let frame = |kind: u8| [&SETUP[..], &[kind, 0, 0, 0], &[0; 8], &[1, 0, 0, 0], &[0; 8]].concat();
+    for program in ["show_table", "crane_table"] {
+        assert_eq!(run(program, &SETUP), Some(0));
+        assert_eq!(run(program, &SETUP[..23]), Some(1));
+        assert_eq!(run(program, &SETUP[..16]), Some(1));
+    }
     assert_eq!(run("write_frames", &frame(1)), Some(0));
     assert_eq!(run("write_frames", &frame(3)), Some(1));
     assert_eq!(run("show_pod", &[0, 0xF7]), Some(0));
     for name in ["drive", "answer"] {
-        assert_eq!(run(name, b"start\nfresh 0 1 1 1\n"), Some(0));
+        assert_eq!(run(name, b"start\nfresh 0 1 1 1 1 1\n"), Some(0));
         assert_eq!(run(name, b"start\nstop\nstart\n"), Some(1));
     }
 }
@@ -54,11 +58,11 @@ fn accepted_and_refused() {
 #[test]
 fn records_both_ways() {
     let _turn = turn();
-    let bytes = output(&mut second(&["records", "encode"]), b"SETUP 1 9 9 9\nX 1\n");
+    let bytes = output(&mut second(&["records", "encode"]), b"SETUP 1 9 9 9 9 9\nX 1\n");
     check(&bytes, 0, "");
     let text = output(&mut second(&["records", "decode"]), &bytes.stdout);
     check(&text, 0, "");
-    assert_eq!(text.stdout, b"SETUP 1 9 9 9\nX 1\n");
+    assert_eq!(text.stdout, b"SETUP 1 9 9 9 9 9\nX 1\n");
     let wrong = output(&mut second(&["records", "encode"]), b"X 1\nQ 1\n");
     check(&wrong, 1, "second: line 2: 'Q' is no event\n");
 }
@@ -69,11 +73,12 @@ fn failed_reads() {
     let _turn = turn();
     let failed = "a read from standard input failed: Is a directory\n";
     for (words, said) in [
-        (&["show_table"][..], format!("show_table: {failed}show_table: the setup is cut: 0 of 16 bytes\n")),
+        (&["show_table"][..], format!("show_table: {failed}show_table: the setup is cut: 0 of 24 bytes\n")),
         (
             &["write_frames"],
-            format!("write_frames: {failed}refused 1\nwrite_frames: the setup is cut: 0 of 16 bytes\n"),
+            format!("write_frames: {failed}refused 1\nwrite_frames: the setup is cut: 0 of 24 bytes\n"),
         ),
+        (&["crane_table"], format!("crane_table: {failed}crane_table: the setup is cut: 0 of 24 bytes\n")),
         (&["show_pod"], format!("show_pod: {failed}")),
         (&["drive"], format!("drive: {failed}")),
         (&["records", "encode"], format!("second: {failed}")),
@@ -89,6 +94,7 @@ fn failed_writes() {
     let _turn = turn();
     for (words, name, bytes) in [
         (&["show_table"][..], "show_table", &SETUP[..]),
+        (&["crane_table"], "crane_table", &SETUP),
         (&["write_frames"], "write_frames", &SETUP),
         (&["show_pod"], "show_pod", &[1]),
         (&["drive"], "drive", b"start\n"),
@@ -119,7 +125,7 @@ fn many_inputs_with_their_answers() {
     let _turn = turn();
     let folder = std::env::temp_dir().join(format!("second-noises-{}", std::process::id()));
     fs::create_dir(&folder).unwrap();
-    for program in ["show_table", "write_frames", "show_pod", "drive"] {
+    for program in PROGRAMS {
         check(&output(&mut second(&["noises", program, "5", "30", "12", folder.to_str().unwrap()]), b""), 0, "");
         for index in 30..42 {
             let kept = |part: &str| fs::read(folder.join(format!("{index}.{part}"))).unwrap();
@@ -169,7 +175,7 @@ fn answers_that_differ() {
 #[test]
 fn an_argument_is_one_too_many() {
     let _turn = turn();
-    for name in ["show_table", "write_frames", "show_pod", "drive"] {
+    for name in PROGRAMS {
         let output = output(&mut second(&[name, "a b", "c"]), b"");
         check(
             &output,

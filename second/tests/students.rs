@@ -6,7 +6,7 @@ use common::*;
 use second::events::*;
 use second::pod::{Pod, Report, Stick};
 use second::reader::{Asked, Mode, Ran, Reader};
-use second::table::SlotNumber;
+use second::table::{SlotNumber, X};
 
 fn abs(code: u16, value: i32) -> Event {
     Event::abs(code, value)
@@ -16,7 +16,7 @@ fn abs(code: u16, value: i32) -> Event {
 fn x_and_y_stay_when_an_id_changes() {
     // After P4: lifted, and the same finger back is one number.
     let mut lifted = writer(1, 2, &[slot(-1, 101, 200, 30), slot(1, 300, 401, 30)]);
-    let (events, _) = write(&mut lifted, &[1, 101, 200, 30, 1, 300, 401, 30]).unwrap();
+    let (events, _) = write(&mut lifted, &[1, 101, 200, 30, 0, 0, 1, 300, 401, 30, 0, 0]).unwrap();
     assert_eq!(events, ["SLOT 0", "ID 2", "REPORT"]);
     let mut reader = following(0, &[slot(0, 101, 200, 30)]);
     let lift = bytes(&[abs(ABS_MT_TRACKING_ID, -1), Event::REPORT]);
@@ -27,7 +27,7 @@ fn x_and_y_stay_when_an_id_changes() {
 #[test]
 fn the_current_slot_goes_first() {
     let mut writer = writer(1, 2, &[slot(0, 100, 200, 30), slot(1, 300, 400, 30)]);
-    let (events, _) = write(&mut writer, &[1, 101, 200, 30, 1, 300, 401, 30]).unwrap();
+    let (events, _) = write(&mut writer, &[1, 101, 200, 30, 0, 0, 1, 300, 401, 30, 0, 0]).unwrap();
     assert_eq!(events.len(), 4);
     assert_eq!(writer.current, SlotNumber(0));
 }
@@ -43,24 +43,24 @@ fn nothing_is_shown_before_the_report_nor_after_a_loss() {
     reader.one(Event::REPORT).unwrap();
     assert_eq!(reader.mode, Mode::Stale);
     assert_eq!(reader.ask(SlotNumber(0)), Ok(Asked::Unknown));
-    reader.load(&[0, 100, 200, 30], SlotNumber(0)).unwrap();
+    reader.load(&[0, 100, 200, 30, 0, 0], SlotNumber(0)).unwrap();
     assert_eq!(reader.ask(SlotNumber(0)), Ok(before));
 }
 
 #[test]
 fn a_replaced_id_is_free_only_in_the_next_frame() {
     let mut writer = writer(0, 7, &[slot(7, 1, 1, 1)]);
-    let (events, _) = write(&mut writer, &[2, 1, 1, 1]).unwrap();
+    let (events, _) = write(&mut writer, &[2, 1, 1, 1, 0, 0]).unwrap();
     assert_eq!(events, ["ID 8", "REPORT"]);
     writer.counter = 7;
-    let (events, _) = write(&mut writer, &[2, 1, 1, 1]).unwrap();
+    let (events, _) = write(&mut writer, &[2, 1, 1, 1, 0, 0]).unwrap();
     assert_eq!(events, ["ID 7", "REPORT"]);
 }
 
 #[test]
 fn a_lifted_id_is_not_free_in_its_own_frame() {
     let mut writer = writer(0, 7, &[slot(7, 1, 1, 1), slot(-1, 1, 1, 1)]);
-    write(&mut writer, &[0, 0, 0, 0, 1, 1, 1, 1]).unwrap();
+    write(&mut writer, &[0, 0, 0, 0, 0, 0, 1, 1, 1, 1, 0, 0]).unwrap();
     assert_eq!(writer.table[1].id.0, 8);
 }
 
@@ -101,9 +101,9 @@ fn a_report_is_judged_at_its_last_byte() {
 #[test]
 fn sixty_five_thousand_landings_beside_a_held_finger() {
     let mut writer = writer(0, 0, &[slot(-1, 0, 0, 0), slot(-1, 0, 0, 0)]);
-    write(&mut writer, &[1, 1, 1, 1, 0, 0, 0, 0]).unwrap();
+    write(&mut writer, &[1, 1, 1, 1, 0, 0, 0, 0, 0, 0, 0, 0]).unwrap();
     for _ in 0..65_536 {
-        write(&mut writer, &[1, 1, 1, 1, 2, 1, 1, 1]).unwrap();
+        write(&mut writer, &[1, 1, 1, 1, 0, 0, 2, 1, 1, 1, 0, 0]).unwrap();
         assert_ne!(writer.table[0].id, writer.table[1].id);
         assert!(writer.is_well_formed());
     }
@@ -119,6 +119,8 @@ fn bad_values_are_a_loss() {
         abs(ABS_MT_POSITION_X, -5),
         abs(ABS_MT_POSITION_Y, 4001),
         abs(ABS_MT_PRESSURE, 256),
+        abs(ABS_MT_TOUCH_MAJOR, 256),
+        abs(ABS_MT_TOUCH_MINOR, -1),
         abs(ABS_MT_TRACKING_ID, 70_000),
         abs(ABS_MT_TRACKING_ID, -9),
     ] {
@@ -152,7 +154,7 @@ fn five_hundred_events_and_a_report_show_a_table() {
     let mut events: Vec<Event> = (0..512).map(|x| abs(ABS_MT_POSITION_X, x)).collect();
     events.push(Event::REPORT);
     assert_eq!(reader.run(&bytes(&events)).unwrap().shown, 1);
-    assert_eq!(reader.shown[0].x, 511);
+    assert_eq!(reader.shown[0].numbers[X], 511);
 }
 
 #[test]

@@ -1,11 +1,16 @@
 -- The code's acts as the model's. Cited by the contracts here and by the reader's proofs. Assumes nothing.
+use mathlib.Core.List.{List}
 use Prim.Native.Nat.{ℕ}
 use lib.IntN.{pos}
+use lib.ListN.{drop}
+use Rattle.model.specs.Panel.{Field}
 use Rattle.model.specs.Events as E
+use Rattle.panel.specs.declared.Setup.{Setup}
+use Rattle.panel.specs.Seen.{axesOf}
 use Rattle.acts.specs.declared.Act.{Act}
-use Rattle.acts.specs.declared.Act.the-variants.{UnknownType, UnknownCode, Bad, Report, Loss, Select, Id, X, Y, Pressure}
+use Rattle.acts.specs.declared.Act.the-variants.{UnknownType, UnknownCode, Bad, Report, Loss, Select, Id, X, Y, Pressure, Major, Minor}
 
--- What a record of type t and code c asks. Number 0 is the id, 1 is x, 2 is y and 3 is the pressure.
+-- What a record of type t and code c asks. Number 0 is the id, 1 is x, 2 is y, 3 is the pressure, 4 and 5 are the sizes.
 abbrev pub actOf : ℕ → ℕ → Act → E.Act
 actOf t c UnknownType = E.skip E.ofType t c
 actOf t c UnknownCode = E.skip E.ofCode t c
@@ -17,3 +22,9 @@ actOf t c (Id v) = E.number 0 (v .0)
 actOf t c (X v) = E.number 1 (pos v)
 actOf t c (Y v) = E.number 2 (pos v)
 actOf t c (Pressure v) = E.number 3 (pos v)
+actOf t c (Major v) = E.number 4 (pos v)
+actOf t c (Minor v) = E.number 5 (pos v)
+
+-- The fields of the sizes: those after the pressure.
+abbrev pub sizesOf : Setup → List Field
+sizesOf u = drop 3 (axesOf u)

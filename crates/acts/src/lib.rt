@@ -4,11 +4,11 @@ ghost use mathlib.Core.Bool.{true, cond};
 ghost use Prim.Native.Nat.{_≤_};
 ghost use Rattle.model.specs.Panel.{base, setupGood, idField, records, slotCode};
 ghost use Rattle.model.specs.Table.{fits};
-ghost use Rattle.model.specs.Events.{bad, number, slotAct, synAct, absAct, classify};
+ghost use Rattle.model.specs.Events.{bad, number, later, numberAct, slotAct, synAct, absAct, classify};
 ghost use Rattle.model.specs.Records.{signedOf};
-ghost use Rattle.panel.specs.Seen.{setupOf, panelSeen};
+ghost use Rattle.panel.specs.Seen.{setupOf, axesOf, panelSeen};
 ghost use Rattle.records.specs.Seen.{eventOf};
-ghost use Rattle.acts.specs.Seen.{actOf};
+ghost use Rattle.acts.specs.Seen.{actOf, sizesOf};
 
 // A record that is unknown says only why: its type and code are at hand, and numbers beside those of the other acts cost the reader's loop dear. A good number comes as what is stored: a slot number, an id, or an unsigned number.
 pub enum Act {
@@ -22,6 +22,8 @@ pub enum Act {
     X(u32),
     Y(u32),
     Pressure(u32),
+    Major(u32),
+    Minor(u32),
 }
 
 // The bits of -1, an unused slot's id.
@@ -64,16 +66,30 @@ fn id_act(value: u32) -> Act
     Act::Bad
 }
 
-fn abs_act(setup: panel::Setup, code: u16, value: u32) -> Act
+// The sizes, which are the fifth and sixth number of a slot.
+fn size_act(setup: panel::Setup, code: u16, value: u32) -> Act
     requires { ⌜ setupGood base (setupOf setup) ≡ true ⌝ }
-    ensures { λ r. ⌜ actOf 3 code r ≡ absAct (panelSeen setup) code (signedOf value) ⌝ }
+    ensures { λ r. ⌜ actOf 3 code r ≡ later (later (later (later (numberAct (sizesOf setup) code (signedOf value))))) ⌝ }
 {
-    if code == records::SLOT {
-        return slot_act(setup.n, value);
+    if code == records::TOUCH_MAJOR {
+        if value <= setup.major {
+            return Act::Major(value);
+        }
+        return Act::Bad;
     }
-    if code == records::TRACKING_ID {
-        return id_act(value);
+    if code == records::TOUCH_MINOR {
+        if value <= setup.minor {
+            return Act::Minor(value);
+        }
+        return Act::Bad;
     }
+    Act::UnknownCode
+}
+
+fn axis_act(setup: panel::Setup, code: u16, value: u32) -> Act
+    requires { ⌜ setupGood base (setupOf setup) ≡ true ⌝ }
+    ensures { λ r. ⌜ actOf 3 code r ≡ later (numberAct (axesOf setup) code (signedOf value)) ⌝ }
+{
     if code == records::POSITION_X {
         if value <= setup.x {
             return Act::X(value);
@@ -92,7 +108,20 @@ fn abs_act(setup: panel::Setup, code: u16, value: u32) -> Act
         }
         return Act::Bad;
     }
-    Act::UnknownCode
+    size_act(setup, code, value)
+}
+
+fn abs_act(setup: panel::Setup, code: u16, value: u32) -> Act
+    requires { ⌜ setupGood base (setupOf setup) ≡ true ⌝ }
+    ensures { λ r. ⌜ actOf 3 code r ≡ absAct (panelSeen setup) code (signedOf value) ⌝ }
+{
+    if code == records::SLOT {
+        return slot_act(setup.n, value);
+    }
+    if code == records::TRACKING_ID {
+        return id_act(value);
+    }
+    axis_act(setup, code, value)
 }
 
 pub fn act_of(setup: panel::Setup, e: records::Event) -> Act

@@ -13,10 +13,12 @@ use writer::FreshWriter;
 use writer::WriterState;
 use writer::Written;
 
-// The sheet's largest x and y, and its largest pressure.
+// The sheet's largest x and y, its largest pressure, and its largest sizes.
 const LARGEST: u32 = 4000;
 
 const HARDEST: u32 = 255;
+
+const WIDEST: u32 = 255;
 
 // Where P2's bytes begin in their buffers, and what the buffers hold before: no record of P2 has this byte, so a byte that was touched shows.
 const AT: usize = 3;
@@ -25,9 +27,7 @@ const FILLED: u8 = 170;
 
 fn say_setup(page: &mut [u8], out: Out, s: Setup) -> Out {
     let a = words::say_part(page, out, b" setup", s.n as u64);
-    let b = words::say_number(page, a, s.x as u64);
-    let c = words::say_number(page, b, s.y as u64);
-    words::say_number(page, c, s.pressure as u64)
+    words::say_largest(page, a, s)
 }
 
 fn say_table(page: &mut [u8], out: Out, name: &[u8], table: [Slot; RECORDS]) -> Out {
@@ -91,16 +91,18 @@ fn say_all_bytes(page: &mut [u8], out: Out, buf: &[u8]) -> Out {
 
 // Id 7 is live while its own contact is replaced, so the new one takes 8: a writer that frees it first would send nothing.
 fn counter_case(page: &mut [u8], out: Out) -> Out {
-    let fresh = WriterState::fresh(1, LARGEST, LARGEST, HARDEST);
+    let fresh = WriterState::fresh(1, LARGEST, LARGEST, HARDEST, WIDEST, WIDEST);
     let mut state = fresh.state;
     state.table[0] = Slot {
         id: TrackingId(7),
         x: 100,
         y: 200,
         pressure: 30,
+        major: 0,
+        minor: 0,
     };
     state.counter = 7;
-    let frame = [2, 100, 200, 30];
+    let frame = [2, 100, 200, 30, 0, 0];
     let mut buf = [0; 16];
     let a = writer::write(state, &frame, &mut buf, 0);
     say_written(page, out, b"counter 7", a, &buf)
@@ -108,16 +110,18 @@ fn counter_case(page: &mut [u8], out: Out) -> Out {
 
 // K8: a frame of one row for a writer of one slot whose contact, of an older table, has pressure 0.
 fn pressure_case(page: &mut [u8], out: Out, name: &[u8], kind: i32, pressure: i32) -> Out {
-    let fresh = WriterState::fresh(1, LARGEST, LARGEST, HARDEST);
+    let fresh = WriterState::fresh(1, LARGEST, LARGEST, HARDEST, WIDEST, WIDEST);
     let mut state = fresh.state;
     state.table[0] = Slot {
         id: TrackingId(0),
         x: 0,
         y: 200,
         pressure: 0,
+        major: 0,
+        minor: 0,
     };
     state.counter = 1;
-    let frame = [kind, 0, 200, pressure];
+    let frame = [kind, 0, 200, pressure, 0, 0];
     let mut buf = [FILLED; 16];
     let a = writer::write(state, &frame, &mut buf, 0);
     say_written(page, out, name, a, &buf)
@@ -130,10 +134,51 @@ fn pressure_cases(page: &mut [u8], out: Out) -> Out {
     pressure_case(page, c, b"kind 0, pressure 0", 0, 0)
 }
 
+// K1: a gloved contact, of one slot, on a state that was never used.
+fn glove_lands(page: &mut [u8], out: Out) -> Out {
+    let fresh = WriterState::fresh(1, LARGEST, LARGEST, HARDEST, WIDEST, WIDEST);
+    let state = fresh.state;
+    let frame = [1, 100, 200, 30, 80, 40];
+    let mut buf = [FILLED; 56];
+    let a = writer::write(state, &frame, &mut buf, 0);
+    say_written(page, out, b"a glove lands", a, &buf)
+}
+
+// A frame of one row after that contact: it is there with id 0, or was lifted.
+fn glove_case(page: &mut [u8], out: Out, name: &[u8], id: i32, frame: &[i32]) -> Out {
+    let fresh = WriterState::fresh(1, LARGEST, LARGEST, HARDEST, WIDEST, WIDEST);
+    let mut state = fresh.state;
+    state.table[0] = Slot {
+        id: TrackingId(id),
+        x: 100,
+        y: 200,
+        pressure: 30,
+        major: 80,
+        minor: 40,
+    };
+    state.counter = 1;
+    let mut buf = [FILLED; 16];
+    let a = writer::write(state, frame, &mut buf, 0);
+    say_written(page, out, name, a, &buf)
+}
+
+fn size_cases(page: &mut [u8], out: Out) -> Out {
+    let a = glove_case(page, out, b"major changes", 0, &[1, 100, 200, 30, 90, 40]);
+    let b = glove_case(page, a, b"minor changes", 0, &[1, 100, 200, 30, 80, 50]);
+    glove_case(page, b, b"the glove lifts", 0, &[0, 0, 0, 0, 0, 0])
+}
+
+fn glove_cases(page: &mut [u8], out: Out) -> Out {
+    let a = glove_lands(page, out);
+    let b = size_cases(page, a);
+    let c = glove_case(page, b, b"it lands again", -1, &[1, 100, 200, 30, 80, 40]);
+    glove_case(page, c, b"major 256", 0, &[1, 100, 200, 30, 256, 40])
+}
+
 fn after_p1() -> WriterState {
-    let fresh = WriterState::fresh(2, LARGEST, LARGEST, HARDEST);
+    let fresh = WriterState::fresh(2, LARGEST, LARGEST, HARDEST, WIDEST, WIDEST);
     let first = fresh.state;
-    let frame = [1, 100, 200, 30, 0, 0, 0, 0];
+    let frame = [1, 100, 200, 30, 0, 0, 0, 0, 0, 0, 0, 0];
     let mut buf = [0; 40];
     let a = writer::write(first, &frame, &mut buf, 0);
     a.state
@@ -141,7 +186,7 @@ fn after_p1() -> WriterState {
 
 fn write_p2(buf: &mut [u8]) -> Written {
     let state = after_p1();
-    let frame = [1, 100, 200, 30, 1, 300, 400, 30];
+    let frame = [1, 100, 200, 30, 0, 0, 1, 300, 400, 30, 0, 0];
     writer::write(state, &frame, buf, AT)
 }
 
@@ -169,8 +214,16 @@ fn say_fresh_reader(page: &mut [u8], out: Out, a: FreshAnswer) -> Out {
 }
 
 fn say_freshes(page: &mut [u8], out: Out, n: usize) -> Out {
-    let a = say_fresh_writer(page, out, WriterState::fresh(n, LARGEST, LARGEST, HARDEST));
-    say_fresh_reader(page, a, ReaderState::fresh(n, LARGEST, LARGEST, HARDEST))
+    let a = say_fresh_writer(
+        page,
+        out,
+        WriterState::fresh(n, LARGEST, LARGEST, HARDEST, WIDEST, WIDEST),
+    );
+    say_fresh_reader(
+        page,
+        a,
+        ReaderState::fresh(n, LARGEST, LARGEST, HARDEST, WIDEST, WIDEST),
+    )
 }
 
 fn setup_case(page: &mut [u8], out: Out, n: usize) -> Out {
@@ -262,7 +315,8 @@ fn answer(page: &mut [u8], out: Out) -> Out {
     let b = pod_cases(page, a);
     let c = room_cases(page, b);
     let d = pressure_cases(page, c);
-    setup_cases(page, d)
+    let e = glove_cases(page, d);
+    setup_cases(page, e)
 }
 
 fn main() {

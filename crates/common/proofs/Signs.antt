@@ -1,6 +1,6 @@
 -- Signed numbers: their bits, their signs, and tests with `true` at the end. Cited by the proofs here, and by those of the crates above. Assumes nothing.
-use mathlib.Core.Path.{_≡_, refl}
-use mathlib.Core.Bool.{Bool, true, false, _&&_}
+use mathlib.Core.Path.{_≡_, refl, sym, ap₂, _∙_}
+use mathlib.Core.Bool.{Bool, true, false, _&&_, _||_}
 use Prim.Native.Nat.{ℕ, suc, _-_, _^_}
 use native.Mathlib.Omega.{arith}
 use lib.Dec.{eqb, leb}
@@ -70,3 +70,16 @@ and-false false b e = refl
 pub and-true : (a : Bool) → (a && true) ≡ a
 and-true true = refl
 and-true false = refl
+
+pub or-true : (a b : Bool) → a ≡ true → (a || b) ≡ true
+or-true a b e = rw e
+
+pub or-false : (a b : Bool) → a ≡ false → (a || b) ≡ b
+or-false a b e = rw e
+
+-- A chain of tests, part by part; the model's chains end with `true`.
+pub join : {a b c d : Bool} → a ≡ b → c ≡ d → (a && c) ≡ (b && d)
+join e f = ap₂ (λ x y. x && y) e f
+
+pub last : {a b : Bool} → a ≡ b → a ≡ (b && true)
+last {b = b} e = e ∙ sym (and-true b)

@@ -5,6 +5,7 @@ use crate::calls::NUMBERS;
 use crate::calls::POD;
 use crate::calls::READER;
 use crate::calls::WRITER;
+use crate::crane;
 use crate::say;
 use crate::states;
 use common::SlotNumber;
@@ -19,7 +20,7 @@ ghost use lib.ListN.{length};
 
 fn fresh(page: &mut [u8], out: Out, ns: &[u64]) -> Out {
     let s = states::setup_of(ns);
-    let a = ReaderState::fresh(s.n, s.x, s.y, s.pressure);
+    let a = ReaderState::fresh(s.n, s.x, s.y, s.pressure, s.major, s.minor);
     let verdict = a.verdict;
     let state = a.state;
     let o = say::verdict(page, out, verdict);
@@ -28,7 +29,7 @@ fn fresh(page: &mut [u8], out: Out, ns: &[u64]) -> Out {
 
 fn new(page: &mut [u8], out: Out, ns: &[u64]) -> Out {
     let s = states::setup_of(ns);
-    let a = WriterState::fresh(s.n, s.x, s.y, s.pressure);
+    let a = WriterState::fresh(s.n, s.x, s.y, s.pressure, s.major, s.minor);
     let verdict = a.verdict;
     let state = a.state;
     let o = say::verdict(page, out, verdict);
@@ -92,14 +93,18 @@ fn marks() -> [u8; BUFFER]
     buf
 }
 
+fn say_sent(page: &mut [u8], out: Out, count: usize, changed: u64, need: usize) -> Out {
+    let a = say::number(page, out, count);
+    let b = words::say_number(page, a, changed);
+    say::number(page, b, need)
+}
+
 fn written(page: &mut [u8], out: Out, a: Written) -> Out {
     let verdict = a.verdict;
     let state = a.state;
     let o = say::verdict(page, out, verdict);
     let p = say::writer_state(page, o, state);
-    let q = say::number(page, p, a.count);
-    let r = words::say_number(page, q, a.changed as u64);
-    say::number(page, r, a.need)
+    say_sent(page, p, a.count, a.changed as u64, a.need)
 }
 
 fn write_into(page: &mut [u8], out: Out, ns: &[u64], frame: &[i32], buf: &mut [u8]) -> Out {
@@ -178,6 +183,12 @@ pub fn answer(page: &mut [u8], out: Out, call: Call, ns: &[u64]) -> Out {
         Call::Write => write(page, out, ns),
         Call::Start => say::pod_state(page, out, PodState::fresh()),
         Call::Pod => pod_bytes(page, out, ns),
+        Call::CraneFresh => crane::fresh(page, out, ns),
+        Call::CraneRun => crane::run(page, out, ns),
+        Call::CraneOne => crane::one(page, out, ns),
+        Call::CraneLoad => crane::load(page, out, ns),
+        Call::CraneAsk => crane::ask(page, out, ns),
+        Call::CraneGood => crane::good(page, out, ns),
         Call::None => out,
     }
 }

@@ -1,4 +1,6 @@
 // The calls of a script and the kind of each of their numbers: docs/DRIVE.md as tables.
+use panel::PER_SLOT;
+use panel::RECORDS;
 
 pub enum Call {
     Fresh,
@@ -11,6 +13,12 @@ pub enum Call {
     Write,
     Start,
     Pod,
+    CraneFresh,
+    CraneRun,
+    CraneOne,
+    CraneLoad,
+    CraneAsk,
+    CraneGood,
     None,
 }
 
@@ -27,14 +35,23 @@ pub enum Kind {
     None,
 }
 
-// How many numbers a setup, a reader, a writer and a pod are.
-const SETUP: usize = 4;
+// How many numbers a setup, a table, a reader, a writer and a pod are. A current slot and one number more stand before a state's tables.
+pub const SETUP: usize = 6;
 
-pub const READER: usize = 134;
+pub const TABLE: usize = PER_SLOT * RECORDS;
 
-pub const WRITER: usize = 70;
+pub const READER: usize = SETUP + 2 + 2 * TABLE;
+
+pub const WRITER: usize = SETUP + 2 + TABLE;
 
 pub const POD: usize = 7;
+
+// A setup and a reader of the cranes.
+pub const CRANE_SETUP: usize = 4;
+
+pub const CRANE_TABLE: usize = crane_panel::PER_SLOT * crane_panel::RECORDS;
+
+pub const CRANE_READER: usize = CRANE_SETUP + 2 + 2 * CRANE_TABLE;
 
 // The most numbers of a line, and the bytes of the largest buffer.
 pub const NUMBERS: usize = 12000;
@@ -70,7 +87,27 @@ fn named(line: &[u8], start: usize, name: &[u8], call: Call) -> Call {
     Call::None
 }
 
-// The call that a line's word at `start` names. The names differ in their first letters.
+// A call of the cranes' reader: its names begin alike.
+fn crane_call_of(line: &[u8], start: usize) -> Call {
+    if is(line, start, b"crane_fresh") {
+        return Call::CraneFresh;
+    }
+    if is(line, start, b"crane_run") {
+        return Call::CraneRun;
+    }
+    if is(line, start, b"crane_one") {
+        return Call::CraneOne;
+    }
+    if is(line, start, b"crane_load") {
+        return Call::CraneLoad;
+    }
+    if is(line, start, b"crane_ask") {
+        return Call::CraneAsk;
+    }
+    named(line, start, b"crane_good", Call::CraneGood)
+}
+
+// The call that a line's word at `start` names. The other names differ in their first letters.
 pub fn call_of(line: &[u8], start: usize) -> Call {
     if start >= line.len() {
         return Call::None;
@@ -87,23 +124,50 @@ pub fn call_of(line: &[u8], start: usize) -> Call {
         b'w' => named(line, start, b"write", Call::Write),
         b's' => named(line, start, b"start", Call::Start),
         b'p' => named(line, start, b"pod", Call::Pod),
+        b'c' => crane_call_of(line, start),
         _ => Call::None,
     }
 }
 
 // Number i of a state: a setup, the current slot, one number of another kind, and tables.
-fn state_kind(i: usize, fifth: Kind) -> Kind {
+fn state_kind(i: usize, other: Kind) -> Kind {
+    if i == 0 {
+        return Kind::Bits64;
+    }
+    if i < SETUP {
+        return Kind::Bits32;
+    }
+    if i == SETUP {
+        return Kind::Bits64;
+    }
+    if i == SETUP + 1 {
+        return other;
+    }
+    if (i - SETUP - 2) % PER_SLOT == 0 {
+        return Kind::Signed;
+    }
+    Kind::Bits32
+}
+
+fn one_kind(i: usize) -> Kind {
+    match i {
+        0..=1 => Kind::Bits16,
+        2 => Kind::Signed,
+        _ => Kind::None,
+    }
+}
+
+fn load_kind(i: usize) -> Kind {
     match i {
         0 => Kind::Bits64,
-        1..=3 => Kind::Bits32,
-        4 => Kind::Bits64,
-        5 => fifth,
-        _ => {
-            if i % 4 == 2 {
-                return Kind::Signed;
-            }
-            Kind::Bits32
-        }
+        _ => Kind::Signed,
+    }
+}
+
+fn ask_kind(i: usize) -> Kind {
+    match i {
+        0 => Kind::Bits64,
+        _ => Kind::None,
     }
 }
 
@@ -111,19 +175,13 @@ fn state_kind(i: usize, fifth: Kind) -> Kind {
 fn after_reader(call: Call, i: usize) -> Kind {
     match call {
         Call::Run => Kind::Bits8,
-        Call::One => match i {
-            0..=1 => Kind::Bits16,
-            2 => Kind::Signed,
-            _ => Kind::None,
-        },
-        Call::Load => match i {
-            0 => Kind::Bits64,
-            _ => Kind::Signed,
-        },
-        Call::Ask => match i {
-            0 => Kind::Bits64,
-            _ => Kind::None,
-        },
+        Call::CraneRun => Kind::Bits8,
+        Call::One => one_kind(i),
+        Call::CraneOne => one_kind(i),
+        Call::Load => load_kind(i),
+        Call::CraneLoad => load_kind(i),
+        Call::Ask => ask_kind(i),
+        Call::CraneAsk => ask_kind(i),
         _ => Kind::None,
     }
 }
@@ -133,6 +191,36 @@ fn reader_kind(call: Call, i: usize) -> Kind {
         return state_kind(i, Kind::Mode);
     }
     after_reader(call, i - READER)
+}
+
+// Number i of a state of the cranes' reader.
+fn crane_state_kind(i: usize) -> Kind {
+    match i {
+        0 => Kind::Bits64,
+        1..=3 => Kind::Bits32,
+        4 => Kind::Bits64,
+        5 => Kind::Mode,
+        _ => {
+            if i % crane_panel::PER_SLOT == 2 {
+                return Kind::Signed;
+            }
+            Kind::Bits32
+        }
+    }
+}
+
+fn crane_kind(call: Call, i: usize) -> Kind {
+    if i < CRANE_READER {
+        return crane_state_kind(i);
+    }
+    after_reader(call, i - CRANE_READER)
+}
+
+fn crane_setup_kind(i: usize) -> Kind {
+    if i < CRANE_SETUP {
+        return crane_state_kind(i);
+    }
+    Kind::None
 }
 
 fn write_kind(i: usize) -> Kind {
@@ -169,6 +257,12 @@ pub fn kind_at(call: Call, i: usize) -> Kind {
         Call::Write => write_kind(i),
         Call::Start => Kind::None,
         Call::Pod => pod_kind(i),
+        Call::CraneFresh => crane_setup_kind(i),
+        Call::CraneRun => crane_kind(call, i),
+        Call::CraneOne => crane_kind(call, i),
+        Call::CraneLoad => crane_kind(call, i),
+        Call::CraneAsk => crane_kind(call, i),
+        Call::CraneGood => crane_kind(call, i),
         Call::None => Kind::None,
         _ => reader_kind(call, i),
     }
@@ -187,6 +281,12 @@ pub fn fewest(call: Call) -> usize {
         Call::Write => WRITER + 2,
         Call::Start => 0,
         Call::Pod => POD + 1,
+        Call::CraneFresh => CRANE_SETUP,
+        Call::CraneRun => CRANE_READER,
+        Call::CraneOne => CRANE_READER + 3,
+        Call::CraneLoad => CRANE_READER + 1,
+        Call::CraneAsk => CRANE_READER + 1,
+        Call::CraneGood => CRANE_READER,
         Call::None => 1,
     }
 }

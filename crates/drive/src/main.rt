@@ -1,6 +1,7 @@
 // Makes each call of a script on the proved library and prints every part of its answer: docs/DRIVE.md. What an independent program is compared through.
 mod answers;
 mod calls;
+mod crane;
 mod numbers;
 mod say;
 mod states;

@@ -23,16 +23,14 @@ pub fn number(page: &mut [u8], out: Out, n: usize) -> Out {
 
 fn setup(page: &mut [u8], out: Out, s: Setup) -> Out {
     let a = number(page, out, s.n);
-    let b = words::say_number(page, a, s.x as u64);
-    let c = words::say_number(page, b, s.y as u64);
-    words::say_number(page, c, s.pressure as u64)
+    words::say_largest(page, a, s)
 }
 
 fn table(page: &mut [u8], out: Out, t: [Slot; RECORDS]) -> Out {
     words::say_table(page, out, t, b" ")
 }
 
-fn mode(page: &mut [u8], out: Out, m: Mode) -> Out {
+pub fn mode(page: &mut [u8], out: Out, m: Mode) -> Out {
     match m {
         Mode::Following => stream::say(page, out, b" 0"),
         Mode::Dropped => stream::say(page, out, b" 1"),
@@ -103,7 +101,7 @@ fn contact(page: &mut [u8], out: Out, s: Slot) -> Out {
     words::say_slot(page, a, s, b" ")
 }
 
-fn refused(page: &mut [u8], out: Out, v: Verdict) -> Out {
+pub fn refused(page: &mut [u8], out: Out, v: Verdict) -> Out {
     words::say_part(page, out, b"refused", v.number() as u64)
 }
 

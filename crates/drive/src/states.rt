@@ -1,7 +1,10 @@
 // The parameters of a call, made of a line's numbers. The line was held to the call's kinds before, so nothing is cut off here.
+use crate::calls::SETUP;
+use crate::calls::TABLE;
 use common::Mode;
 use common::SlotNumber;
 use common::TrackingId;
+use panel::PER_SLOT;
 use panel::RECORDS;
 use panel::Setup;
 use panel::Slot;
@@ -30,7 +33,7 @@ pub fn natural(ns: &[u64], i: usize) -> u32 {
     low(number(ns, i))
 }
 
-fn signed(ns: &[u64], i: usize) -> i32 {
+pub fn signed(ns: &[u64], i: usize) -> i32 {
     records::signed_of(natural(ns, i))
 }
 
@@ -48,34 +51,38 @@ pub fn setup_of(ns: &[u64]) -> Setup {
         x: natural(ns, 1),
         y: natural(ns, 2),
         pressure: natural(ns, 3),
+        major: natural(ns, 4),
+        minor: natural(ns, 5),
     }
 }
 
 fn slot_of(ns: &[u64], at: usize) -> Slot
-    requires { ⌜ at ≤ 200 ⌝ }
+    requires { ⌜ at ≤ 12000 ⌝ }
 {
     Slot {
         id: TrackingId(signed(ns, at)),
         x: natural(ns, at + 1),
         y: natural(ns, at + 2),
         pressure: natural(ns, at + 3),
+        major: natural(ns, at + 4),
+        minor: natural(ns, at + 5),
     }
 }
 
 fn table_of(ns: &[u64], from: usize) -> [Slot; RECORDS]
-    requires { ⌜ from ≤ 100 ⌝ }
+    requires { ⌜ from ≤ 1000 ⌝ }
 {
     let mut t = panel::zero_table();
     let mut k: usize = 0;
     while k < RECORDS {
-        let at = from + 4 * k;
+        let at = from + PER_SLOT * k;
         t[k] = slot_of(ns, at);
         k += 1;
     }
     t
 }
 
-fn mode_of(v: u64) -> Mode {
+pub fn mode_of(v: u64) -> Mode {
     match v {
         0 => Mode::Following,
         1 => Mode::Dropped,
@@ -86,19 +93,19 @@ fn mode_of(v: u64) -> Mode {
 pub fn reader_of(ns: &[u64]) -> ReaderState {
     ReaderState {
         setup: setup_of(ns),
-        shown: table_of(ns, 6),
-        pending: table_of(ns, 70),
-        current: SlotNumber(number(ns, 4) as usize),
-        mode: mode_of(number(ns, 5)),
+        shown: table_of(ns, SETUP + 2),
+        pending: table_of(ns, SETUP + 2 + TABLE),
+        current: SlotNumber(number(ns, SETUP) as usize),
+        mode: mode_of(number(ns, SETUP + 1)),
     }
 }
 
 pub fn writer_of(ns: &[u64]) -> WriterState {
     WriterState {
         setup: setup_of(ns),
-        table: table_of(ns, 6),
-        current: SlotNumber(number(ns, 4) as usize),
-        counter: natural(ns, 5),
+        table: table_of(ns, SETUP + 2),
+        current: SlotNumber(number(ns, SETUP) as usize),
+        counter: natural(ns, SETUP + 1),
     }
 }
 

@@ -33,6 +33,16 @@ fn say_syn(page: &mut [u8], out: Out, e: Event) -> Out {
     say_unlisted(page, out, e)
 }
 
+fn say_size(page: &mut [u8], out: Out, e: Event) -> Out {
+    if e.code == records::TOUCH_MAJOR {
+        return say_value(page, out, b"ABS_MT_TOUCH_MAJOR", e.value);
+    }
+    if e.code == records::TOUCH_MINOR {
+        return say_value(page, out, b"ABS_MT_TOUCH_MINOR", e.value);
+    }
+    say_unlisted(page, out, e)
+}
+
 fn say_abs(page: &mut [u8], out: Out, e: Event) -> Out {
     if e.code == records::SLOT {
         return say_value(page, out, b"ABS_MT_SLOT", e.value);
@@ -49,7 +59,7 @@ fn say_abs(page: &mut [u8], out: Out, e: Event) -> Out {
     if e.code == records::PRESSURE {
         return say_value(page, out, b"ABS_MT_PRESSURE", e.value);
     }
-    say_unlisted(page, out, e)
+    say_size(page, out, e)
 }
 
 fn say_name(page: &mut [u8], out: Out, e: Event) -> Out {
@@ -87,7 +97,13 @@ fn say_number_set(page: &mut [u8], out: Out, s: Slot, code: u16) -> Out {
     if code == records::POSITION_Y {
         return words::say_part(page, out, b"y", s.y as u64);
     }
-    words::say_part(page, out, b"pressure", s.pressure as u64)
+    if code == records::PRESSURE {
+        return words::say_part(page, out, b"pressure", s.pressure as u64);
+    }
+    if code == records::TOUCH_MAJOR {
+        return words::say_part(page, out, b"major", s.major as u64);
+    }
+    words::say_part(page, out, b"minor", s.minor as u64)
 }
 
 // The pending table as the reader left it has what was set.
@@ -114,11 +130,17 @@ fn say_position(page: &mut [u8], out: Out, s: Slot) -> Out {
     words::say_part(page, a, b", y", s.y as u64)
 }
 
+fn say_sizes(page: &mut [u8], out: Out, s: Slot) -> Out {
+    let a = words::say_part(page, out, b", major", s.major as u64);
+    words::say_part(page, a, b", minor", s.minor as u64)
+}
+
 fn say_numbers(page: &mut [u8], out: Out, s: Slot) -> Out {
     let id = s.id;
     let a = say_id(page, out, id);
     let b = say_position(page, a, s);
-    words::say_part(page, b, b", pressure", s.pressure as u64)
+    let c = words::say_part(page, b, b", pressure", s.pressure as u64);
+    say_sizes(page, c, s)
 }
 
 fn say_between(page: &mut [u8], said: Said) -> Out {

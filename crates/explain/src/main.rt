@@ -186,7 +186,7 @@ fn after_setup(page: &mut [u8], out: Out, h: Header) -> Out {
     if h.count < header::BYTES {
         return refuse_setup(page, out, h);
     }
-    let a = ReaderState::fresh(h.n as usize, h.x, h.y, h.pressure);
+    let a = ReaderState::fresh(h.n as usize, h.x, h.y, h.pressure, h.major, h.minor);
     let v = a.verdict;
     if v.number() != 0 {
         return refuse_setup(page, out, h);

@@ -2,6 +2,7 @@
 use crate::lines;
 use common::TrackingId;
 use panel::RECORDS;
+use panel::Setup;
 use panel::Slot;
 use reader::ReaderState;
 use records::Event;
@@ -81,6 +82,39 @@ fn say_twice(page: &mut [u8], out: Out, t: Twice) -> Out {
     words::say_part(page, c, b" and in slot", t.second as u64)
 }
 
+// The largest value that a code may set, of those that are neither a slot's nor an id's.
+fn largest(setup: Setup, code: u16) -> u32 {
+    if code == records::POSITION_X {
+        return setup.x;
+    }
+    if code == records::POSITION_Y {
+        return setup.y;
+    }
+    if code == records::PRESSURE {
+        return setup.pressure;
+    }
+    if code == records::TOUCH_MAJOR {
+        return setup.major;
+    }
+    setup.minor
+}
+
+fn say_name(page: &mut [u8], out: Out, code: u16) -> Out {
+    if code == records::POSITION_X {
+        return stream::say(page, out, b"x");
+    }
+    if code == records::POSITION_Y {
+        return stream::say(page, out, b"y");
+    }
+    if code == records::PRESSURE {
+        return stream::say(page, out, b"pressure");
+    }
+    if code == records::TOUCH_MAJOR {
+        return stream::say(page, out, b"major");
+    }
+    stream::say(page, out, b"minor")
+}
+
 // A report is bad by the table that it would show, any other record by its value.
 pub fn say_bad(page: &mut [u8], out: Out, s: ReaderState, e: Event) -> Out {
     let setup = s.setup;
@@ -96,11 +130,6 @@ pub fn say_bad(page: &mut [u8], out: Out, s: ReaderState, e: Event) -> Out {
     if e.code == records::TRACKING_ID {
         return say_range(page, out, b"id", v, b"-1", TrackingId::COUNT as u64 - 1);
     }
-    if e.code == records::POSITION_X {
-        return say_range(page, out, b"x", v, b"0", setup.x as u64);
-    }
-    if e.code == records::POSITION_Y {
-        return say_range(page, out, b"y", v, b"0", setup.y as u64);
-    }
-    say_range(page, out, b"pressure", v, b"0", setup.pressure as u64)
+    let a = say_name(page, out, e.code);
+    say_range(page, a, b"", v, b"0", largest(setup, e.code) as u64)
 }

@@ -23,8 +23,8 @@ fn tell(page: &mut [u8], out: Out, state: ReaderState) -> Out {
 }
 
 fn read_finger(page: &mut [u8], out: Out) -> Out {
-    // A panel of one slot, with its largest x, y and pressure.
-    let fresh = ReaderState::fresh(1, 4000, 4000, 255);
+    // A panel of one slot, with its largest x, y, pressure and sizes.
+    let fresh = ReaderState::fresh(1, 4000, 4000, 255, 255, 255);
     let before = fresh.state;
     // Tracking id 0 and a report: eight bytes each, type, code and value.
     let answer = reader::run(

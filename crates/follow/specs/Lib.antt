@@ -1,3 +1,3 @@
--- The reader's tables as the model's, and what is left of a run.
+-- The reader's tables as the model's, and how a run ends.
 pub mod Seen
 pub mod Runs

@@ -9,7 +9,8 @@ ghost use Rattle.model.specs.Reader.{following, nothing};
 ghost use Rattle.common.specs.Seen.{modeOf, skippedOf, countsOf, countsFrom};
 ghost use Rattle.panel.specs.Seen.{setupOf, panelSeen, unusedAll, sameFrom};
 ghost use Rattle.follow.specs.Seen.{readerOf};
-ghost use Rattle.follow.specs.Runs.{onward, counted as countsSoFar, endedFrom, lostAt, FirstWithin, firstAt, firstAfter};
+ghost use Rattle.common.specs.Runs.{onward, counted as countsSoFar, FirstWithin, firstAt, firstAfter};
+ghost use Rattle.follow.specs.Runs.{endedFrom, lostAt};
 use acts::Act;
 use common::Counts;
 use common::FirstSkipped;
@@ -163,6 +164,8 @@ pub fn follow(
                     x: old.x,
                     y: old.y,
                     pressure: old.pressure,
+                    major: old.major,
+                    minor: old.minor,
                 };
                 k += 1;
             }
@@ -176,6 +179,14 @@ pub fn follow(
             }
             Act::Pressure(v) => {
                 pending[current].pressure = v;
+                k += 1;
+            }
+            Act::Major(v) => {
+                pending[current].major = v;
+                k += 1;
+            }
+            Act::Minor(v) => {
+                pending[current].minor = v;
                 k += 1;
             }
         }

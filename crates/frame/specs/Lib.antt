@@ -1,1 +1,2 @@
--- The frame's own definitions: none, its contracts cite the model's.
+-- The frame's own definitions: its contracts cite the model's besides.
+pub mod Fit31

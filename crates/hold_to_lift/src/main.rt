@@ -35,12 +35,12 @@ fn tell(page: &mut [u8], out: Out, when: &[u8], state: ReaderState) -> Out {
 
 // The reader after the events of a frame with one finger.
 fn with_finger(before: ReaderState) -> ReaderState {
-    // The frame of a panel of one slot: kind, x, y and pressure. Kind 1 is a finger on the slot.
-    let frame = [1, 100, 200, 30];
-    let mut events = [0u8; 40];
-    let fresh = WriterState::fresh(1, 4000, 4000, 255);
+    // The frame of a panel of one slot: kind, x, y, pressure and both sizes. Kind 1 is a finger on the slot.
+    let frame = [1, 100, 200, 30, 80, 40];
+    let mut events = [0u8; 56];
+    let fresh = WriterState::fresh(1, 4000, 4000, 255, 255, 255);
     let state = fresh.state;
-    // Every answer has a verdict; this one is Accepted, and count is 5.
+    // Every answer has a verdict; this one is Accepted, and count is 7.
     writer::write(state, &frame, &mut events, 0);
     let read = reader::run(before, &events);
     read.state
@@ -58,7 +58,7 @@ fn with_loss(before: ReaderState) -> ReaderState {
 }
 
 fn tell_all(page: &mut [u8], out: Out) -> Out {
-    let fresh = ReaderState::fresh(1, 4000, 4000, 255);
+    let fresh = ReaderState::fresh(1, 4000, 4000, 255, 255, 255);
     let before = fresh.state;
     let held = with_finger(before);
     let lost = with_loss(held);

@@ -1,33 +1,34 @@
-// A load's image: four signed numbers for each slot, judged and made a table. The reader's `load` stands on it.
+// A load's image: a slot's numbers for each slot, signed, judged and made a table. The reader's `load` stands on it.
 ghost use mathlib.Core.Path.{_≡_};
-ghost use mathlib.Core.List.{_∷_, []};
 ghost use Prim.Native.Nat.{_≤_, _*_};
 ghost use lib.ListN.{length};
 ghost use Rattle.model.specs.Panel.{perSlot, records};
 ghost use Rattle.model.specs.Table.{goodSlot, goodRecords};
 ghost use Rattle.model.specs.Frame.{rowsFrom};
 ghost use Rattle.model.specs.Calls.{imageTable, imageGood};
-ghost use Rattle.panel.specs.Seen.{slotFrom, tableFrom, fieldsOf, panelSeen};
+ghost use Rattle.panel.specs.Seen.{rowOf, slotFrom, tableFrom, fieldsOf, panelSeen};
 
 // The numbers must be good: a negative one would become 0.
-fn slot_of(id: i32, x: i32, y: i32, pressure: i32) -> panel::Slot
-    ensures { λ r. ⌜ r ≡ slotFrom (id ∷ x ∷ y ∷ pressure ∷ []) ⌝ }
+fn slot_of(r: panel::Row) -> panel::Slot
+    ensures { λ s. ⌜ s ≡ slotFrom (rowOf r) ⌝ }
 {
     panel::Slot {
-        id: common::TrackingId(id),
-        x: common::nat_of(x),
-        y: common::nat_of(y),
-        pressure: common::nat_of(pressure),
+        id: common::TrackingId(r.first),
+        x: common::nat_of(r.x),
+        y: common::nat_of(r.y),
+        pressure: common::nat_of(r.pressure),
+        major: common::nat_of(r.major),
+        minor: common::nat_of(r.minor),
     }
 }
 
-fn row_ok(setup: panel::Setup, id: i32, x: i32, y: i32, pressure: i32) -> bool
-    ensures { λ r. ⌜ r ≡ goodSlot (fieldsOf setup) (id ∷ x ∷ y ∷ pressure ∷ []) ⌝ }
+fn row_ok(setup: panel::Setup, r: panel::Row) -> bool
+    ensures { λ b. ⌜ b ≡ goodSlot (fieldsOf setup) (rowOf r) ⌝ }
 {
-    if !common::id_ok(id) {
+    if !common::id_ok(r.first) {
         return false;
     }
-    panel::numbers_ok(setup, x, y, pressure)
+    panel::numbers_ok(setup, r)
 }
 
 fn rows_ok(setup: panel::Setup, image: &[i32]) -> bool
@@ -37,14 +38,7 @@ fn rows_ok(setup: panel::Setup, image: &[i32]) -> bool
     let n = setup.n;
     let mut i: usize = 0;
     while i < n {
-        let at = panel::PER_SLOT * i;
-        if !row_ok(
-            setup,
-            image[at],
-            image[at + 1],
-            image[at + 2],
-            image[at + 3],
-        ) {
+        if !row_ok(setup, panel::row_at(image, panel::PER_SLOT * i)) {
             return false;
         }
         i += 1;
@@ -61,8 +55,7 @@ pub fn image_table(setup: panel::Setup, image: &[i32]) -> [panel::Slot; panel::R
     let mut t = panel::unused_table();
     let mut i: usize = 0;
     while i < n {
-        let at = panel::PER_SLOT * i;
-        let s = slot_of(image[at], image[at + 1], image[at + 2], image[at + 3]);
+        let s = slot_of(panel::row_at(image, panel::PER_SLOT * i));
         t[i] = s;
         i += 1;
     }

@@ -19,16 +19,16 @@ use Rattle.reader.specs.States.{seen}
 -- A reader of one slot that went stale.
 abbrev pub astray : ReaderState
 astray = record {
-  setup = record { n = 1; x = 4_000; y = 4_000; pressure = 255 };
+  setup = record { n = 1; x = 4_000; y = 4_000; pressure = 255; major = 255; minor = 255 };
   shown = unusedAll;
   pending = unusedAll;
   current = record { 0 = 0 };
   mode = Stale;
 }
 
--- One contact, at 100, 200 and 30, with id 7.
+-- One contact, at 100, 200 and 30, with id 7 and sizes 80 and 40.
 abbrev pub image : List ℤ
-image = pos 7 ∷ pos 100 ∷ pos 200 ∷ pos 30 ∷ []
+image = pos 7 ∷ pos 100 ∷ pos 200 ∷ pos 30 ∷ pos 80 ∷ pos 40 ∷ []
 
 pub astray-good : readerGood base (seen astray) ≡ true
 unfolding readerGood

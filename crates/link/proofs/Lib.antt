@@ -9,6 +9,8 @@
 -- Steady: well-formed states stay well formed, call after call.
 -- Loss: after a reported loss every slot is answered "unknown" until a load is accepted (demand 2).
 -- Cases: what the theorems ask can be met.
+-- Shift: any list of calls of `write`, refused ones among them, as the model's.
+-- Cranes: the cranes' reader, given all their bytes, shows four numbers of the writer's slots and skips the sizes alone (K1).
 pub mod Contracts
 pub mod Exact
 pub mod Demands
@@ -19,3 +21,5 @@ pub mod Cut
 pub mod Steady
 pub mod Loss
 pub mod Cases
+pub mod Shift
+pub mod Cranes

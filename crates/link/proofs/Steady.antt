@@ -38,7 +38,7 @@ use Rattle.link.specs.Promises.{WriterMade, Wrote, ReaderMade, Ran, Read
 use Rattle.link.specs.Host.{HostCall, run, readOne, load, ask, Allowed, stateAfter, AllAllowed, stateAfterAll}
 
 -- A verdict that is seen as accepted was so.
-was-accepted : (v : C.Verdict) (w : Verdict) → w ≡ verdictFrom v → w ≡ Accepted → T (isAccepted v)
+pub was-accepted : (v : C.Verdict) (w : Verdict) → w ≡ verdictFrom v → w ≡ Accepted → T (isAccepted v)
 was-accepted v w e h = subst (λ x. T (isAccepted x)) (sym (sym (verdict-seen v) ∙ ap verdictOf (sym e ∙ h))) tt
 
 -- ---- the writer

@@ -9,7 +9,7 @@ use Rattle.model.specs.Reader.{oneShown, run}
 use Rattle.model.specs.States.{writerGood, readerGood}
 use Rattle.model.specs.Pod.{kindOf, amended, wellFormed, signed, fed, stepBy}
 use Rattle.model.specs.Calls.{accepted, freshWriterCall, freshReaderCall, writeVerdict, writeCall, writeBuffer, runVerdict, runCall}
-use Rattle.model.specs.Bench.{Row, outcome, pupil, panel, fresh, sheet, replaced, selfTests, pressures, pale, pales, writer, at}
+use Rattle.model.specs.Bench.{Row, outcome, pupil, panel, fresh, sheet, replaced, selfTests, pressures, pale, pales, gloves, writer, at}
 
 -- Every row: the writer's whole answer, every byte of the buffer, and the table read back; or the pod's state and answers.
 sheet-holds : map (λ (r : Row). outcome (r .given)) sheet ≡ map (λ (r : Row). r .gives) sheet
@@ -32,6 +32,11 @@ replaced-holds = refl
 pressures-hold : map (λ (r : Row). outcome (r .given)) pressures ≡ map (λ (r : Row). r .gives) pressures
 unfolding bitsOf signedOf recordBytes bytesOf eventsFrom lay rowsFrom freeId run writerGood readerGood freshWriterCall writeVerdict writeCall writeBuffer runVerdict runCall
 pressures-hold = refl
+
+-- Touch sizes (K1): when they are sent, and when they are not.
+gloves-hold : map (λ (r : Row). outcome (r .given)) gloves ≡ map (λ (r : Row). r .gives) gloves
+unfolding bitsOf signedOf recordBytes bytesOf eventsFrom lay rowsFrom freeId run writerGood readerGood freshWriterCall writeVerdict writeCall writeBuffer runVerdict runCall
+gloves-hold = refl
 
 -- A reader takes pressure 0 of a contact as it always did.
 zero-read : runCall base (pupil (writer 1 (at (pos 0) 5 5 30 ∷ []) 0 1)) (bytesOf pales) ≡ record { verdict = accepted; state = pupil (pale (pos 0) 1); counts = oneShown }

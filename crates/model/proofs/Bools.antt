@@ -16,6 +16,10 @@ pub is-true : (b : Bool) → T b → b ≡ true
 is-true true t = refl
 is-true false t = absurd t
 
+pub holds : (b : Bool) → b ≡ true → T b
+holds true e = tt
+holds false e = absurd (false≢true e)
+
 pub is-false : (b : Bool) → T (not b) → b ≡ false
 is-false true t = absurd t
 is-false false t = refl

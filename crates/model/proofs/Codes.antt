@@ -73,14 +73,15 @@ tells p w =
       carries = both-right (few && differ) _ w;
     }
 
-back : (p : Panel) → Tellable p → (x : Sent) → Good (p .fields) (p .slots) x → classify p (eventOf (fieldCodes (p .fields)) x) ≡ asks x
+-- The event of what may be sent asks for just that.
+pub back : (p : Panel) → Tellable p → (x : Sent) → Good (p .fields) (p .slots) x → classify p (eventOf (fieldCodes (p .fields)) x) ≡ asks x
 back p w (sendSlot k) g = rw (is-true (ltb k (p .slots)) g)
 back p w (sendNumber i v) g =
     rw (is-false (eqb (codeOf (fieldCodes (p .fields)) i) slotCode) (unlisted-at slotCode (p .fields) i v (w .slotApart) g))
     (number-back (p .fields) i v (w .codesApart) g)
 back p w sendReport g = refl
 
--- The events of what may be sent ask for just that.
+-- So it is for all that may be sent.
 pub all-back : (p : Panel) → Tellable p → (xs : List Sent) → AllGood (p .fields) (p .slots) xs → map (classify p) (map (eventOf (fieldCodes (p .fields))) xs) ≡ map asks xs
 all-back p w [] g = refl
 all-back p w (x ∷ xs) g = ap₂ {C = List Act} (λ y ys. y ∷ ys) (back p w x (g .0)) (all-back p w xs (g .1))

@@ -1,31 +1,54 @@
--- The theorems at document 01's layout; and, so that nothing stands in the way of K1 and K7, at six numbers and 32 records. Assumes nothing.
+-- The theorems at the product's layout, at the cranes' beside it (K1), and, so that nothing stands in the way of K7, at 32 records. Cited by link.
+-- Assumes nothing.
 use mathlib.Core.Path.{_≡_, refl}
-use mathlib.Core.List.{List, [], _∷_, _++_}
+use mathlib.Core.List.{List}
 use Prim.Native.Nat.{_*_, _≤_}
+use native.Mathlib.Omega.{arith}
 use lib.Dec.{T}
 use lib.IntN.{ℤ}
 use lib.ListN.{length}
 use Rattle.model.proofs.Calls.{frame-limit, frame-reads-back}
-use Rattle.model.specs.Panel.{Layout, base, goodLayout, panelOf}
+use Rattle.model.proofs.Narrow.{short-setup, narrow-fresh}
+use Rattle.model.specs.Panel.{Layout, Setup, setupGood, goodLayout, panelOf, base, craneRecords, crane}
 use Rattle.model.specs.Records.{bytesOf, eventsOf}
 use Rattle.model.specs.Frame.{valuesGood}
 use Rattle.model.specs.Reader.{follow, read}
 use Rattle.model.specs.States.{WriterState, writerGood}
-use Rattle.model.specs.Calls.{writerAfter, frameEvents, mostEvents}
+use Rattle.model.specs.Calls.{freshWriterCall, freshReaderCall, writerAfter, frameEvents, mostEvents, runCall}
+use Rattle.model.specs.Shift.{FrameCall, wroteAll, writtenAll}
+use Rattle.model.specs.Narrow.{craneSetup, Shorter, shortRan}
 
--- Document 01's layout is good, and a frame has 80 events and 640 bytes at most.
+-- The product's layout is good, and a frame has 112 events and 896 bytes at most.
 pub base-good : T (goodLayout base)
 base-good = tt
 
-pub base-most : (s : WriterState) (f : List ℤ) → T (writerGood base s) → T (valuesGood (panelOf base (s .setup)) f) → length (frameEvents (panelOf base (s .setup)) (s .writer) f) ≤ 80
+pub base-most : (s : WriterState) (f : List ℤ) → T (writerGood base s) → T (valuesGood (panelOf base (s .setup)) f) → length (frameEvents (panelOf base (s .setup)) (s .writer) f) ≤ 112
 base-most s f w v = frame-limit base s f tt w v
 
-base-bytes : 8 * mostEvents base ≡ 640
+base-bytes : 8 * mostEvents base ≡ 896
 base-bytes = refl
 
--- Touch sizes after pressure, and 32 records: 224 events at most, and what is written reads back.
+-- The cranes' layout is the shorter one, for every setup with no more slots than they have records.
+module _ (u : Setup) (g : T (setupGood base u)) (few : u .slots ≤ craneRecords) where
+  crane-shorter : Shorter base crane u (craneSetup u)
+  crane-shorter = record { axes = refl; records = omega arith; slots = refl; held = few; largest = refl }
+
+  -- A crane's reader takes n, the largest x, y and pressure of the product's setup.
+  pub crane-setup : T (setupGood crane (craneSetup u))
+  unfolding crane-shorter
+  crane-setup = short-setup base crane u (craneSetup u) crane-shorter g
+
+  -- K1: given all bytes that the product's writer wrote so far, it shows the first four numbers of the writer's slots, and skipped the sizes alone.
+  pub crane-shows : (qs : List FrameCall)
+      → (let w = freshWriterCall base u .state in
+      let bs = writtenAll base w qs in
+      runCall crane (freshReaderCall crane (craneSetup u) .state) bs ≡ shortRan base crane (craneSetup u) (wroteAll base w qs) (eventsOf bs))
+  unfolding crane-shorter
+  crane-shows qs = narrow-fresh base crane u (craneSetup u) qs base-good g crane-shorter
+
+-- 32 records: 224 events at most, and what is written reads back.
 abbrev wide : Layout
-wide = record { records = 32; axes = base .axes ++ record { code = 0x30; most = 255; least = 0 } ∷ record { code = 0x31; most = 255; least = 0 } ∷ [] }
+wide = record { records = 32; axes = base .axes }
 
 wide-most : (s : WriterState) (f : List ℤ) → T (writerGood wide s) → T (valuesGood (panelOf wide (s .setup)) f) → length (frameEvents (panelOf wide (s .setup)) (s .writer) f) ≤ 224
 wide-most s f w v = frame-limit wide s f tt w v

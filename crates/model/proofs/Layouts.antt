@@ -13,7 +13,7 @@ use Rattle.model.specs.Numbers.{between, betweenZ}
 use Rattle.model.specs.Panel.{Axis, Layout, Setup, largestGood, setupGood, idField, axisFields, panelOf, slotCode, codesDiffer, carried, allCarried, fieldCodes, tellable, axesCarried, axisCodes, goodLayout, idCount}
 
 -- The axes' fields have the axes' codes.
-codes-same : (axes : List Axis) (largest : List ℕ) → T (largestGood axes largest) → fieldCodes (axisFields axes largest) ≡ axisCodes axes
+pub codes-same : (axes : List Axis) (largest : List ℕ) → T (largestGood axes largest) → fieldCodes (axisFields axes largest) ≡ axisCodes axes
 codes-same [] [] g = refl
 codes-same [] (v ∷ vs) g = absurd g
 codes-same (a ∷ axes) [] g = absurd g

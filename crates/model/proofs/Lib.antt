@@ -4,7 +4,8 @@
 --   Bench: the definitions give the sheet's rows P1 to P9.
 --   AtReport: the shown table stays but at a report, which shows what was pending.
 --   FirstBytes: what each of the 256 first bytes of a pod's report begins.
---   Instances: the theorems at document 01's layout, at six numbers and at 32 records.
+--   Instances: the theorems at the product's layout, at the cranes' beside it and at 32 records.
+--   Cranes: what a crane's reader has of the product's, and a shift with a gloved contact.
 -- Tools
 --   Bools: tests that pass or fail, and equal whole numbers.
 --   Tables: slots and tables of one size, equal, good, with one slot changed or done.
@@ -45,8 +46,14 @@
 --   SelfTest: a pod that waits differs in nothing but its first self-test (K3).
 --   Skips: what a run tells of the events that it skipped, by their numbers (K4).
 --   Presses: the values that a writer accepts are those in document 01's ranges with no contact of pressure 0 (K8).
+--   Followed: what a run tells that ends following.
+--   Shift: any list of calls of `write`, refused ones among them, in events and in bytes, and that the writer's own reader follows it.
+--   NarrowReader: a reader with the first numbers of a longer one's slots ends as that one does, its tables cut (K1).
+--   NarrowCounts: of what the longer one lists it skips the later fields.
+--   Narrow: both of a shift, from fresh states.
 pub mod Bench
 pub mod AtReport
+pub mod Cranes
 pub mod Bools
 pub mod Exact
 pub mod Tables
@@ -59,6 +66,7 @@ pub mod Cut
 pub mod Lost
 pub mod Loss
 pub mod Skips
+pub mod Followed
 pub mod Presses
 pub mod Least
 pub mod Ids
@@ -76,6 +84,10 @@ pub mod Answers
 pub mod Chain
 pub mod Shows
 pub mod Link
+pub mod Shift
+pub mod NarrowReader
+pub mod NarrowCounts
+pub mod Narrow
 pub mod FirstBytes
 pub mod Pod
 pub mod SelfTest

@@ -28,10 +28,7 @@ use Rattle.model.specs.Reader.{following, follow, nothing, oneShown, cou
 use Rattle.model.specs.States.{WriterState, writerGood, readerGood}
 use Rattle.model.specs.Calls.{isAccepted, accepted, frameEvents, writerAfter, needOf, writeVerdict, Written, notWritten, taken, writeCall, writeBuffer, ran, notRun, runVerdict, runCall}
 use Rattle.model.specs.Bench.{pupil}
-
--- What is in the buffer from the position on, for eight times the count.
-abbrev pub written : Layout → WriterState → List ℤ → ℕ → List ℕ → List ℕ
-written l s f at buf = take (8 * writeCall l s f at (length buf) .count) (drop at (writeBuffer l s f at buf))
+use Rattle.model.specs.Shift.{written}
 
 -- A call that answers "accepted" had that verdict.
 pub call-verdict : (l : Layout) (s : WriterState) (f : List ℤ) (at size : ℕ) → writeCall l s f at size .verdict ≡ accepted → T (isAccepted (writeVerdict l s f at size))
@@ -45,6 +42,16 @@ call-verdict l s f at size e =
       | true ↦ λ i d. i tt
       | false ↦ λ i d. subst (λ z. T (isAccepted z)) (sym d) tt
     ]) (λ t. t) e
+
+-- The pupil of a well-formed writer is well formed.
+pub pupil-good : (l : Layout) (s : WriterState) → T (writerGood l s) → T (readerGood l (pupil s))
+pupil-good l s g =
+    let w = writer-state l s g in
+    state-reader l (pupil s)
+    (record {
+      setup = w .setup;
+      reader = record { shows = w .writer .good; pends = w .writer .good; differs = w .writer .differs; below = w .writer .below; settles = tt };
+    })
 
 module _ (l : Layout) (s : WriterState) (f : List ℤ) (at : ℕ) (buf : List ℕ) (g : T (goodLayout l)) (h : T (isAccepted (writeVerdict l s f at (length buf)))) where
   good : T (writerGood l s)
@@ -69,13 +76,6 @@ module _ (l : Layout) (s : WriterState) (f : List ℤ) (at : ℕ) (buf : List �
       let es = frameEvents (panelOf l (s .setup)) (s .writer) f in
       let a : at ≤ length buf = leb→le at (length buf) (both-left (leb at (length buf)) _ (write-accepted l s f at (length buf) h .room)) in
       ap₂ (λ (n : ℕ) (b : List ℕ). take n (drop at b)) (ap (λ (w : Written). 8 * w .count) answer-is ∙ sym (bytes-length es)) buffer-is ∙ laid-part at (bytesOf es) buf a
-
-  -- The pupil is well formed.
-  pupil-good : T (readerGood l (pupil s))
-  unfolding good
-  pupil-good =
-      let w = writer-state l s good in
-      state-reader l (pupil s) (record { setup = w .setup; reader = record { shows = w .writer .good; pends = w .writer .good; differs = w .writer .differs; below = w .writer .below; settles = tt } })
 
   counts-are : countAll (follow (s .writer .table) (s .writer .table) (s .writer .current)) (map (classify (panelOf l (s .setup))) (eventsOf (bytesOf (frameEvents (panelOf l (s .setup)) (s .writer) f))))
       ≡ cond (eqb (length (frameEvents (panelOf l (s .setup)) (s .writer) f)) 0) nothing oneShown
@@ -108,7 +108,7 @@ module _ (l : Layout) (s : WriterState) (f : List ℤ) (at : ℕ) (buf : List �
       let es = frameEvents p (s .writer) f in
       let whole : eqb (length (bytesOf es) % 8) 0 ≡ true = eq-eqb (length (bytesOf es) % 8) 0 (omega (arith, bytes-length es)) in
       ap (runCall l (pupil s)) written-is
-      ∙ run-whole l (pupil s) (bytesOf es) (is-true _ pupil-good) whole
+      ∙ run-whole l (pupil s) (bytesOf es) (is-true _ (pupil-good l s good)) whole
       ∙ ap (ran (s .setup)) run-is
       ∙ sym (ap (λ (a : Written). record { verdict = accepted; state = pupil (a .state); counts = cond (eqb (a .count) 0) nothing oneShown }) answer-is)
 

@@ -10,12 +10,12 @@ use lib.ListN.{set}
 -- Brought in so that it is checked first: a reader that does not heed a loss then fails at the theorem on it, and not at a step of a proof here.
 use Rattle.model.proofs.Loss
 use Rattle.model.proofs.Bools.{both, both-left, both-right}
-use Rattle.model.proofs.Tables.{eqTable-self, good-length, good-records, good-table, length-onSlot}
+use Rattle.model.proofs.Tables.{eqTable→eq, eqTable-self, good-length, good-records, good-table, length-onSlot}
 use Rattle.model.proofs.Codes.{goodAt}
 use Rattle.model.specs.Panel.{Field, Panel, slotCode}
 use Rattle.model.specs.Table.{Slot, Table, idsDiffer, fits, goodSlot, goodRecords, goodTable}
 use Rattle.model.specs.Events.{Event, Act, skip, bad, report, loss, slot, number, later, numberAct, slotAct, synAct, absAct, classify}
-use Rattle.model.specs.Reader.{Mode, following, dropped, stale, Reader, lose, reported, onSlot, stepFollowing, stepIn, step, read}
+use Rattle.model.specs.Reader.{Mode, following, dropped, stale, Lost, Reader, lose, reported, onSlot, stepFollowing, stepIn, step, read}
 use Rattle.model.specs.States.{settled, goodReader}
 
 -- ---- what an event asks is allowed
@@ -111,6 +111,12 @@ settled-self : (m : Mode) (t : Table) → T (settled m t t)
 settled-self following t = tt
 settled-self dropped t = eqTable-self t
 settled-self stale t = eqTable-self t
+
+-- Once track is lost, nothing is pending.
+pub lost-settled : (m : Mode) (s p : Table) → T (settled m s p) → Lost m → p ≡ s
+lost-settled following s p t l = absurd l
+lost-settled dropped s p t l = sym (eqTable→eq s p t)
+lost-settled stale s p t l = sym (eqTable→eq s p t)
 
 lose-steady : (p : Panel) (m : Mode) (r : Reader) → SteadyReader p r → SteadyReader p (lose m r)
 lose-steady p m r s = record { shows = s .shows; pends = s .shows; differs = s .differs; below = s .below; settles = settled-self m (r .shown) }

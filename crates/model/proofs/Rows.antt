@@ -7,6 +7,7 @@ use native.Mathlib.Nat.{mul-suc}
 use native.Mathlib.Numerals.{add-one}
 use lib.IntN.{ℤ, pos}
 use lib.ListN.{getD}
+use Rattle.model.specs.Panel.{perSlot}
 use Rattle.model.specs.Frame.{numbersFrom, rowsFrom}
 
 -- Slot s's row, and then the rows of the slots after it.
@@ -21,9 +22,12 @@ pub rows-none : (k : ℕ) (f : List ℤ) (at : ℕ) → rowsFrom k 0 f at ≡ []
 unfolding rowsFrom
 rows-none k f at = refl
 
--- Four numbers, at the offsets that code writes.
-pub row-of-four : (f : List ℤ) (at : ℕ) → numbersFrom 4 f at ≡ getD f at (pos 0) ∷ getD f (at + 1) (pos 0) ∷ getD f (at + 2) (pos 0) ∷ getD f (at + 3) (pos 0) ∷ []
-row-of-four f at =
+-- A slot's numbers, at the offsets that code writes.
+pub row-of-slot : (f : List ℤ) (at : ℕ)
+    → numbersFrom perSlot f at ≡ getD f at (pos 0) ∷ getD f (at + 1) (pos 0) ∷ getD f (at + 2) (pos 0) ∷ getD f (at + 3) (pos 0) ∷ getD f (at + 4) (pos 0) ∷ getD f (at + 5) (pos 0) ∷ []
+row-of-slot f at =
     let two : at + 1 + 1 ≡ at + 2 = omega arith in
     let three : at + 2 + 1 ≡ at + 3 = omega arith in
-    rw (two, three)
+    let four : at + 3 + 1 ≡ at + 4 = omega arith in
+    let five : at + 4 + 1 ≡ at + 5 = omega arith in
+    rw (two, three, four, five)

@@ -26,7 +26,7 @@ pub record Unlisted (e : Event) (t c : ℕ) : Type 0 where
   pub type : e .type ≡ t
   pub code : e .code ≡ c
 
-abbrev Told : Panel → Event → Act → Type 0
+abbrev pub Told : Panel → Event → Act → Type 0
 Told p e (skip ofType t c) = (knownType e ≡ false) × Unlisted e t c
 Told p e (skip ofCode t c) = (knownType e ≡ true) × (knownCode p e ≡ false) × Unlisted e t c
 Told p e bad = Listed p e
@@ -35,7 +35,7 @@ Told p e loss = Listed p e
 Told p e (slot k) = Listed p e
 Told p e (number i v) = Listed p e
 
-by-cond : (P : Act → Type 0) (b : Bool) (x y : Act) → (b ≡ true → P x) → (b ≡ false → P y) → P (cond b x y)
+pub by-cond : (P : Act → Type 0) (b : Bool) (x y : Act) → (b ≡ true → P x) → (b ≡ false → P y) → P (cond b x y)
 by-cond P true x y f g = f refl
 by-cond P false x y f g = g refl
 

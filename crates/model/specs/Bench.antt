@@ -57,20 +57,30 @@ Y v = record { type = 3; code = 0x36; value = v }
 abbrev pub PRESSURE : ℤ → Event
 PRESSURE v = record { type = 3; code = 0x3a; value = v }
 
+abbrev pub MAJOR : ℤ → Event
+MAJOR v = record { type = 3; code = 0x30; value = v }
+
+abbrev pub MINOR : ℤ → Event
+MINOR v = record { type = 3; code = 0x31; value = v }
+
 abbrev pub REPORT : Event
 REPORT = record { type = 0; code = 0; value = pos 0 }
 
--- A slot's four numbers.
+-- A slot's id, x, y and pressure, and its sizes.
+abbrev pub sized : ℤ → ℕ → ℕ → ℕ → ℕ → ℕ → Slot
+sized i x y p major minor = i ∷ pos x ∷ pos y ∷ pos p ∷ pos major ∷ pos minor ∷ []
+
+-- The slots of the sheet have sizes 0.
 abbrev pub at : ℤ → ℕ → ℕ → ℕ → Slot
-at i x y p = i ∷ pos x ∷ pos y ∷ pos p ∷ []
+at i x y p = sized i x y p 0 0
 
--- One slot of a frame: the kind, x, y and pressure.
+-- One slot of a frame: the kind, x, y and pressure, and sizes 0.
 abbrev pub kind : ℕ → ℕ → ℕ → ℕ → List ℤ
-kind k x y p = pos k ∷ pos x ∷ pos y ∷ pos p ∷ []
+kind k x y p = at (pos k) x y p
 
--- n slots, largest x and y 4,000, largest pressure 255.
+-- n slots, largest x and y 4,000, largest pressure and sizes 255.
 abbrev pub panel : ℕ → Setup
-panel n = record { slots = n; largest = 4_000 ∷ 4_000 ∷ 255 ∷ [] }
+panel n = record { slots = n; largest = 4_000 ∷ 4_000 ∷ 255 ∷ 255 ∷ 255 ∷ [] }
 
 -- A writer of n slots: these slots and then unused records, the current slot and the counter.
 abbrev pub writer : ℕ → Table → ℕ → ℕ → WriterState
@@ -190,3 +200,24 @@ pressures =
 -- The events with which an older panel says that its contact's pressure is 0.
 abbrev pub pales : List Event
 pales = PRESSURE (pos 0) ∷ REPORT ∷ []
+
+-- A gloved contact of one slot, with its sizes, and the writer's counter.
+abbrev pub glove : ℤ → ℕ → ℕ → ℕ → WriterState
+glove i major minor k = writer 1 (sized i 100 200 30 major minor ∷ []) 0 k
+
+-- Its row of a frame.
+abbrev pub gloved : ℕ → ℕ → ℕ → List ℤ
+gloved k major minor = sized (pos k) 100 200 30 major minor
+
+-- 02's K1, run cases and yet shown: a glove lands, and both sizes are sent, after pressure; one size changes, and then the other; a lift keeps them;
+-- a landing with equal sizes does not send them.
+abbrev pub gloves : List Row
+gloves =
+    turns (writer 1 [] 0 0) (gloved 1 80 40) (bytesOf (ID (pos 0) ∷ X (pos 100) ∷ Y (pos 200) ∷ PRESSURE (pos 30) ∷ MAJOR (pos 80) ∷ MINOR (pos 40) ∷ REPORT ∷ [])) 7 1 (glove (pos 0) 80 40 1) oneShown
+    ∷ turns (glove (pos 0) 80 40 1) (gloved 1 90 40) (bytesOf (MAJOR (pos 90) ∷ REPORT ∷ [])) 2 1 (glove (pos 0) 90 40 1) oneShown
+    ∷ turns (glove (pos 0) 90 40 1) (gloved 1 90 50) (bytesOf (MINOR (pos 50) ∷ REPORT ∷ [])) 2 1 (glove (pos 0) 90 50 1) oneShown
+    ∷ turns (glove (pos 0) 90 50 1) (gloved 0 0 0) (bytesOf (ID (negsuc 0) ∷ REPORT ∷ [])) 2 1 (glove (negsuc 0) 90 50 1) oneShown
+    ∷ turns (glove (negsuc 0) 90 50 1) (gloved 1 90 50) (bytesOf (ID (pos 1) ∷ REPORT ∷ [])) 2 1 (glove (pos 1) 90 50 2) oneShown
+    ∷ refuses (glove (pos 0) 80 40 1) (gloved 1 256 40) value
+    ∷ refuses (glove (pos 0) 80 40 1) (gloved 1 80 256) value
+    ∷ []

@@ -16,4 +16,6 @@ pub mod Pod
 pub mod Refusals
 pub mod Presses
 pub mod Bench
+pub mod Shift
+pub mod Narrow
 pub mod Unique

@@ -1,5 +1,5 @@
 -- A panel: its setup, the ranges of the setup's numbers, and the fields of a slot record. Assumes nothing.
--- One layout carries document 01 (16 records of 4 numbers); another list of axes or number of records is another layout.
+-- One layout carries the product, and one the cranes' reader: another list of axes or number of records is another layout.
 use mathlib.Core.Bool.{Bool, true, false, not, _&&_}
 use mathlib.Core.List.{List, [], _∷_, map}
 use Prim.Native.Nat.{ℕ, _+_}
@@ -112,13 +112,13 @@ axisCodes axes = map (λ (a : Axis). a .code) axes
 abbrev pub goodLayout : Layout → Bool
 goodLayout l = ltb (l .records + l .records) idCount && codesDiffer (slotCode ∷ idField .code ∷ axisCodes (l .axes)) && axesCarried (l .axes)
 
--- How many slot records a table of document 01's layout holds.
+-- How many slot records a table of the product's layout holds.
 abbrev pub records : ℕ
 records = 16
 
--- How many numbers a slot has in it: id, x, y and pressure.
+-- How many numbers a slot has in it: id, x, y, pressure, and the contact's larger and smaller size.
 abbrev pub perSlot : ℕ
-perSlot = 4
+perSlot = 6
 
 -- ABS_MT_POSITION_X and _Y, up to 32,767.
 abbrev pub xAxis : Axis
@@ -131,6 +131,24 @@ yAxis = record { code = 0x36; most = 32_767; least = 0 }
 abbrev pub pressureAxis : Axis
 pressureAxis = record { code = 0x3a; most = 255; least = 1 }
 
--- Document 01's layout: sixteen records of an id, x, y and pressure.
+-- ABS_MT_TOUCH_MAJOR and _MINOR, a contact's size, up to 255 (K1).
+abbrev pub majorAxis : Axis
+majorAxis = record { code = 0x30; most = 255; least = 0 }
+
+abbrev pub minorAxis : Axis
+minorAxis = record { code = 0x31; most = 255; least = 0 }
+
+-- The product's layout: sixteen records of an id, x, y, pressure and both sizes.
 abbrev pub base : Layout
-base = record { records = records; axes = xAxis ∷ yAxis ∷ pressureAxis ∷ [] }
+base = record { records = records; axes = xAxis ∷ yAxis ∷ pressureAxis ∷ majorAxis ∷ minorAxis ∷ [] }
+
+-- How many slot records a table of the cranes' reader holds, and how many numbers a slot has in it.
+abbrev pub craneRecords : ℕ
+craneRecords = 16
+
+abbrev pub cranePerSlot : ℕ
+cranePerSlot = 4
+
+-- The cranes' layout, document 01's for good: sixteen records of an id, x, y and pressure.
+abbrev pub crane : Layout
+crane = record { records = craneRecords; axes = xAxis ∷ yAxis ∷ pressureAxis ∷ [] }

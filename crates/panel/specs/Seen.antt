@@ -2,7 +2,7 @@
 use mathlib.Core.Path.{_≡_}
 use mathlib.Core.List.{List, [], _∷_, map}
 use Prim.Native.Nat.{ℕ}
-use lib.IntN.{pos}
+use lib.IntN.{ℤ, pos}
 use lib.ListN.{getD, drop, replicate}
 use Rattle.model.specs.Panel.{records}
 use Rattle.model.specs.Numbers.{minusOne}
@@ -12,20 +12,28 @@ use Rattle.model.specs.Frame as F
 use Rattle.common.specs.Seen.{natural}
 use Rattle.panel.specs.declared.Slot.{Slot}
 use Rattle.panel.specs.declared.Setup.{Setup}
+use Rattle.panel.specs.declared.Row.{Row}
 
 -- ---- slots and tables
 
--- A slot's four numbers, the id first.
+-- A slot's numbers, the id first.
 abbrev pub slotOf : Slot → T.Slot
-slotOf s = s .id .0 ∷ pos (s .x) ∷ pos (s .y) ∷ pos (s .pressure) ∷ []
+slotOf s = s .id .0 ∷ pos (s .x) ∷ pos (s .y) ∷ pos (s .pressure) ∷ pos (s .major) ∷ pos (s .minor) ∷ []
 
 -- All records of a table.
 abbrev pub tableOf : List Slot → T.Table
 tableOf t = map slotOf t
 
--- The slot that holds four numbers; a number that is missing counts as 0, a missing id as unused.
+-- The slot that holds these numbers; a number that is missing counts as 0, a missing id as unused.
 abbrev pub slotFrom : T.Slot → Slot
-slotFrom s = record { id = record { 0 = T.idOf s }; x = natural (getD s 1 (pos 0)); y = natural (getD s 2 (pos 0)); pressure = natural (getD s 3 (pos 0)) }
+slotFrom s = record {
+  id = record { 0 = T.idOf s };
+  x = natural (getD s 1 (pos 0));
+  y = natural (getD s 2 (pos 0));
+  pressure = natural (getD s 3 (pos 0));
+  major = natural (getD s 4 (pos 0));
+  minor = natural (getD s 5 (pos 0));
+}
 
 -- The table of such slots.
 abbrev pub tableFrom : T.Table → List Slot
@@ -33,13 +41,13 @@ tableFrom t = map slotFrom t
 
 -- What stands for a slot past an array's end.
 abbrev pub blank : Slot
-blank = record { id = record { 0 = pos 0 }; x = 0; y = 0; pressure = 0 }
+blank = record { id = record { 0 = pos 0 }; x = 0; y = 0; pressure = 0; major = 0; minor = 0 }
 
 -- A record that was never used.
 abbrev pub unused : Slot
-unused = record { id = record { 0 = minusOne }; x = 0; y = 0; pressure = 0 }
+unused = record { id = record { 0 = minusOne }; x = 0; y = 0; pressure = 0; major = 0; minor = 0 }
 
--- Sixteen of them.
+-- As many of them as a table holds.
 abbrev pub unusedAll : List Slot
 unusedAll = replicate records unused
 
@@ -47,25 +55,38 @@ unusedAll = replicate records unused
 abbrev pub sameFrom : ℕ → List Slot → List Slot → Type 0
 sameFrom n a b = tableOf (drop n a) ≡ tableOf (drop n b)
 
--- Sixteen records of zeros.
+-- As many records of zeros.
 abbrev pub zeros : List Slot
 zeros = replicate records blank
+
+-- ---- rows
+
+-- A row's numbers, the kind or the id first.
+abbrev pub rowOf : Row → List ℤ
+rowOf r = r .first ∷ r .x ∷ r .y ∷ r .pressure ∷ r .major ∷ r .minor ∷ []
 
 -- ---- setups
 
 -- A setup's numbers.
 abbrev pub setupOf : Setup → P.Setup
-setupOf u = record { slots = u .n; largest = u .x ∷ u .y ∷ u .pressure ∷ [] }
+setupOf u = record { slots = u .n; largest = u .x ∷ u .y ∷ u .pressure ∷ u .major ∷ u .minor ∷ [] }
 
 -- The setup of such numbers; a largest value that is missing counts as 0.
 abbrev pub setupFrom : P.Setup → Setup
-setupFrom u = record { n = u .slots; x = getD (u .largest) 0 0; y = getD (u .largest) 1 0; pressure = getD (u .largest) 2 0 }
+setupFrom u = record {
+  n = u .slots;
+  x = getD (u .largest) 0 0;
+  y = getD (u .largest) 1 0;
+  pressure = getD (u .largest) 2 0;
+  major = getD (u .largest) 3 0;
+  minor = getD (u .largest) 4 0;
+}
 
--- The panel of a setup, in document 01's layout.
+-- The panel of a setup, in the product's layout.
 abbrev pub panelSeen : Setup → P.Panel
 panelSeen u = P.panelOf P.base (setupOf u)
 
--- A slot's fields: id, x, y and pressure.
+-- A slot's fields: id, x, y, pressure and both sizes.
 abbrev pub fieldsOf : Setup → List P.Field
 fieldsOf u = panelSeen u .fields
 

@@ -1,28 +1,35 @@
 // The panel's types, and the tests of a setup, a slot and a table. The reader and the writer stand on it.
 ghost use mathlib.Core.Path.{_≡_};
-ghost use mathlib.Core.List.{_∷_, []};
-ghost use Prim.Native.Nat.{_<_, _≤_};
-ghost use lib.ListN.{take, drop};
-ghost use Rattle.model.specs.Panel.{base, setupGood, records};
-ghost use Rattle.model.specs.Table.{ids, unheld, goodSlot, eqSlot, eqTable, idsDiffer as idsApart, goodRecords};
-ghost use Rattle.panel.specs.Seen.{slotOf, tableOf, setupOf, fieldsOf, axesOf, unused, unusedAll, sameFrom, zeros};
+ghost use Prim.Native.Nat.{_+_, _<_, _≤_};
+ghost use lib.ListN.{length, take, drop};
+ghost use Rattle.model.specs.Panel.{base, setupGood, perSlot, records};
+ghost use Rattle.model.specs.Table.{numbersOf, ids, unheld, goodSlot, eqSlot, eqTable, idsDiffer as idsApart, goodRecords};
+ghost use Rattle.model.specs.Frame.{numbersFrom};
+ghost use Rattle.panel.specs.Seen.{rowOf, slotOf, tableOf, setupOf, fieldsOf, axesOf, unused, unusedAll, sameFrom, zeros};
 use common::TrackingId;
 
 // How many slot records a table holds.
 pub const RECORDS: usize = 16;
 
 // How many numbers a slot has.
-pub const PER_SLOT: usize = 4;
+pub const PER_SLOT: usize = 6;
 
-// The most that a setup may give as the largest x and y, and as the largest pressure.
+// The most events of a frame: one for each number, one to open each slot but one, and the report.
+pub const MOST_EVENTS: usize = PER_SLOT * RECORDS + RECORDS;
+
+// The most that a setup may give as the largest x and y, as the largest pressure, and as the largest sizes.
 pub const MOST_POSITION: usize = 32767;
 
 pub const MOST_PRESSURE: usize = 255;
 
-// The least that a frame may give a contact as x and y, and as pressure. A table may hold less.
+pub const MOST_SIZE: usize = 255;
+
+// The least that a frame may give a contact as x and y, as pressure, and as a size. A table may hold less.
 pub const LEAST_POSITION: u32 = 0;
 
 pub const LEAST_PRESSURE: u32 = 1;
+
+pub const LEAST_SIZE: u32 = 0;
 
 // The numbers of a slot are unsigned but for the id: only good numbers are ever held, and a test against a largest value is one comparison.
 pub struct Slot {
@@ -30,6 +37,8 @@ pub struct Slot {
     pub x: u32,
     pub y: u32,
     pub pressure: u32,
+    pub major: u32,
+    pub minor: u32,
 }
 
 pub struct Setup {
@@ -37,6 +46,18 @@ pub struct Setup {
     pub x: u32,
     pub y: u32,
     pub pressure: u32,
+    pub major: u32,
+    pub minor: u32,
+}
+
+// A slot's numbers as they lie in a frame or an image: the kind or the id first, and then the others, any signed number each.
+pub struct Row {
+    pub first: i32,
+    pub x: i32,
+    pub y: i32,
+    pub pressure: i32,
+    pub major: i32,
+    pub minor: i32,
 }
 
 impl Slot {
@@ -48,6 +69,8 @@ impl Slot {
             x: 0,
             y: 0,
             pressure: 0,
+            major: 0,
+            minor: 0,
         }
     }
 }
@@ -68,6 +91,8 @@ pub fn zero_table() -> [Slot; RECORDS]
         x: 0,
         y: 0,
         pressure: 0,
+        major: 0,
+        minor: 0,
     };
     [z; RECORDS]
 }
@@ -75,44 +100,46 @@ pub fn zero_table() -> [Slot; RECORDS]
 pub fn setup_ok(s: Setup) -> bool
     ensures { λ r. ⌜ r ≡ setupGood base (setupOf s) ⌝ }
 {
-    if !common::between(s.n, RECORDS) {
-        return false;
-    }
-    if !common::between(s.x as usize, MOST_POSITION) {
-        return false;
-    }
-    if !common::between(s.y as usize, MOST_POSITION) {
-        return false;
-    }
-    common::between(s.pressure as usize, MOST_PRESSURE)
+    common::between(s.n, RECORDS)
+        & (common::between(s.x as usize, MOST_POSITION)
+            & (common::between(s.y as usize, MOST_POSITION)
+                & (common::between(s.pressure as usize, MOST_PRESSURE)
+                    & (common::between(s.major as usize, MOST_SIZE)
+                        & common::between(s.minor as usize, MOST_SIZE)))))
 }
 
-pub fn numbers_ok(setup: Setup, x: i32, y: i32, pressure: i32) -> bool
-    ensures { λ r. ⌜ r ≡ goodSlot (axesOf setup) (x ∷ y ∷ pressure ∷ []) ⌝ }
+pub fn row_at(l: &[i32], at: usize) -> Row
+    requires { ⌜ at + perSlot ≤ length (now l) ⌝ }
+    ensures { λ r. ⌜ rowOf r ≡ numbersFrom perSlot (now (l .entry)) at ⌝ }
 {
-    if !common::within(x, setup.x) {
-        return false;
+    Row {
+        first: l[at],
+        x: l[at + 1],
+        y: l[at + 2],
+        pressure: l[at + 3],
+        major: l[at + 4],
+        minor: l[at + 5],
     }
-    if !common::within(y, setup.y) {
-        return false;
-    }
-    common::within(pressure, setup.pressure)
+}
+
+pub fn numbers_ok(setup: Setup, r: Row) -> bool
+    ensures { λ b. ⌜ b ≡ goodSlot (axesOf setup) (numbersOf (rowOf r)) ⌝ }
+{
+    common::within(r.x, setup.x)
+        & (common::within(r.y, setup.y)
+            & (common::within(r.pressure, setup.pressure)
+                & (common::within(r.major, setup.major) & common::within(r.minor, setup.minor))))
 }
 
 fn slot_ok(setup: Setup, s: Slot) -> bool
     ensures { λ r. ⌜ r ≡ goodSlot (fieldsOf setup) (slotOf s) ⌝ }
 {
     let id = s.id;
-    if !common::id_ok(id.0) {
-        return false;
-    }
-    if setup.x < s.x {
-        return false;
-    }
-    if setup.y < s.y {
-        return false;
-    }
-    s.pressure <= setup.pressure
+    common::id_ok(id.0)
+        & ((s.x <= setup.x)
+            & ((s.y <= setup.y)
+                & ((s.pressure <= setup.pressure)
+                    & ((s.major <= setup.major) & (s.minor <= setup.minor)))))
 }
 
 fn slots_same(a: Slot, b: Slot) -> bool
@@ -120,16 +147,10 @@ fn slots_same(a: Slot, b: Slot) -> bool
 {
     let p = a.id;
     let q = b.id;
-    if !common::same(p.0, q.0) {
-        return false;
-    }
-    if a.x != b.x {
-        return false;
-    }
-    if a.y != b.y {
-        return false;
-    }
-    a.pressure == b.pressure
+    common::same(p.0, q.0)
+        & ((a.x == b.x)
+            & ((a.y == b.y)
+                & ((a.pressure == b.pressure) & ((a.major == b.major) & (a.minor == b.minor)))))
 }
 
 fn slot_unused(s: Slot) -> bool

@@ -17,7 +17,7 @@ use Rattle.model.specs.Records.{bitsOf}
 use Rattle.model.specs.Frame.{numbersFrom, rowsFrom, kindOf, goodContact, goodRow, goodRows, Fate, none, goesOn, begins, fate}
 use Rattle.model.specs.Frame.{freeId, slotAfter, takenAfter, counterAfter, Planned, after, planned, newTable}
 use Rattle.model.proofs.Bools.{and-left, and-right}
-use Rattle.model.proofs.Rows.{rows-next, rows-none, row-of-four}
+use Rattle.model.proofs.Rows.{rows-next, rows-none}
 use Rattle.model.proofs.Tries.{Same, planned-same}
 use Rattle.panel.specs.declared.Slot as S
 use Rattle.panel.specs.declared.Setup.{Setup}
@@ -32,14 +32,14 @@ unfolding bitsOf
 own-bits (pos n) b e = refl
 own-bits (negsuc n) b e = let z : _≡_ {A = ℕ} 0 1 = cc in absurd (omega arith)
 
-abbrev three : ℤ → ℤ → ℤ → List ℤ
-three x y p = x ∷ y ∷ p ∷ []
-
-same-three : (x y p : ℤ) → unsigned (three x y p) ≡ true → three (pos (bitsOf x)) (pos (bitsOf y)) (pos (bitsOf p)) ≡ three x y p
-same-three x y p e =
-    let f = and-right (leZ (pos 0) x) _ e in
-    let g = and-right (leZ (pos 0) y) _ f in
-    rw (own-bits x _ e, own-bits y _ f, own-bits p _ g)
+-- Five numbers that are not negative are held as they are.
+own-numbers : (i k x y p major minor : ℤ) → (let vs = x ∷ y ∷ p ∷ major ∷ minor ∷ [] in unsigned vs ≡ true → slotOf (contactOf i (k ∷ vs)) ≡ i ∷ vs)
+own-numbers i k x y p major minor e =
+    let ey = and-right (leZ (pos 0) x) _ e in
+    let ep = and-right (leZ (pos 0) y) _ ey in
+    let ea = and-right (leZ (pos 0) p) _ ep in
+    let ei = and-right (leZ (pos 0) major) _ ea in
+    rw (own-bits x _ e, own-bits y _ ey, own-bits p _ ep, own-bits major _ ea, own-bits minor _ ei)
 
 -- A contact's numbers are not negative, whatever the axes.
 contact-unsigned : (axes : List Axis) (largest : List ℕ) (vs : List ℤ) → goodContact (axisFields axes largest) vs ≡ true → unsigned vs ≡ true
@@ -82,30 +82,38 @@ is-begun begins e = refl
 abbrev fateBy : Bool → Bool → Bool → Fate
 fateBy k0 k2 lives = cond k0 none (cond k2 begins (cond lives goesOn begins))
 
-module _ (was : S.Slot) (x y p : ℤ) (j : ℕ) where
-  begun-by : (k0 k2 lives : Bool) → begun (fateBy k0 k2 lives) ≡ true → (k0 || unsigned (three x y p)) ≡ true
-      → slotOf (contactOf (pos j) x y p) ≡ slotAfter (fateBy k0 k2 lives) j (slotOf was) (three x y p)
-  begun-by true k2 lives e g = let z : _≡_ {A = ℕ} 0 1 = cc in absurd (omega arith)
-  begun-by false true lives e g = ap (λ l. pos j ∷ l) (same-three x y p g)
-  begun-by false false true e g = let z : _≡_ {A = ℕ} 0 1 = cc in absurd (omega arith)
-  begun-by false false false e g = ap (λ l. pos j ∷ l) (same-three x y p g)
+module _ (was : S.Slot) (f : List ℤ) (at : ℕ) (j : ℕ) where
+  abbrev lent : List ℤ
+  lent = numbersFrom perSlot f at
 
-  stayed-by : (k0 k2 lives : Bool) → begun (fateBy k0 k2 lives) ≡ false → (k0 || unsigned (three x y p)) ≡ true
-      → slotOf (stayed k0 was x y p) ≡ slotAfter (fateBy k0 k2 lives) j (slotOf was) (three x y p)
+  held : (i : ℤ) → unsigned (numbersOf lent) ≡ true → slotOf (contactOf i lent) ≡ i ∷ numbersOf lent
+  held i e =
+      let v : ℕ → ℤ = λ n. getD f n (pos 0) in
+      own-numbers i (v at) (v (at + 1)) (v (at + 1 + 1)) (v (at + 1 + 1 + 1)) (v (at + 1 + 1 + 1 + 1)) (v (at + 1 + 1 + 1 + 1 + 1)) e
+
+  begun-by : (k0 k2 lives : Bool) → begun (fateBy k0 k2 lives) ≡ true → (k0 || unsigned (numbersOf lent)) ≡ true
+      → slotOf (contactOf (pos j) lent) ≡ slotAfter (fateBy k0 k2 lives) j (slotOf was) (numbersOf lent)
+  begun-by true k2 lives e g = let z : _≡_ {A = ℕ} 0 1 = cc in absurd (omega arith)
+  begun-by false true lives e g = held (pos j) g
+  begun-by false false true e g = let z : _≡_ {A = ℕ} 0 1 = cc in absurd (omega arith)
+  begun-by false false false e g = held (pos j) g
+
+  stayed-by : (k0 k2 lives : Bool) → begun (fateBy k0 k2 lives) ≡ false → (k0 || unsigned (numbersOf lent)) ≡ true
+      → slotOf (stayed k0 was lent) ≡ slotAfter (fateBy k0 k2 lives) j (slotOf was) (numbersOf lent)
   stayed-by true k2 lives e g = refl
   stayed-by false true lives e g = let z : _≡_ {A = ℕ} 0 1 = cc in absurd (omega arith)
-  stayed-by false false true e g = ap (λ l. was .id .0 ∷ l) (same-three x y p g)
+  stayed-by false false true e g = held (was .id .0) g
   stayed-by false false false e g = let z : _≡_ {A = ℕ} 0 1 = cc in absurd (omega arith)
 
   -- A slot in which a contact begins has the given id and the row's numbers.
-  pub begun-slot : (kind : ℤ) → begun (fate kind (was .id .0)) ≡ true → plainRow (kind ∷ three x y p) ≡ true
-      → slotOf (contactOf (pos j) x y p) ≡ slotAfter (fate kind (was .id .0)) j (slotOf was) (three x y p)
-  begun-slot kind e g = begun-by (eqZ kind (pos 0)) (eqZ kind (pos 2)) (live (was .id .0)) e g
+  pub begun-slot : begun (fate (kindOf lent) (was .id .0)) ≡ true → plainRow lent ≡ true
+      → slotOf (contactOf (pos j) lent) ≡ slotAfter (fate (kindOf lent) (was .id .0)) j (slotOf was) (numbersOf lent)
+  begun-slot e g = begun-by (eqZ (kindOf lent) (pos 0)) (eqZ (kindOf lent) (pos 2)) (live (was .id .0)) e g
 
   -- In any other the id stays, or the contact is lifted.
-  pub stayed-slot : (kind : ℤ) → begun (fate kind (was .id .0)) ≡ false → plainRow (kind ∷ three x y p) ≡ true
-      → slotOf (stayed (eqZ kind (pos 0)) was x y p) ≡ slotAfter (fate kind (was .id .0)) j (slotOf was) (three x y p)
-  stayed-slot kind e g = stayed-by (eqZ kind (pos 0)) (eqZ kind (pos 2)) (live (was .id .0)) e g
+  pub stayed-slot : begun (fate (kindOf lent) (was .id .0)) ≡ false → plainRow lent ≡ true
+      → slotOf (stayed (eqZ (kindOf lent) (pos 0)) was lent) ≡ slotAfter (fate (kindOf lent) (was .id .0)) j (slotOf was) (numbersOf lent)
+  stayed-slot e g = stayed-by (eqZ (kindOf lent) (pos 0)) (eqZ (kindOf lent) (pos 2)) (live (was .id .0)) e g
 
 pub begun-taken : (f : Fate) (j : ℕ) (l : List ℤ) → begun f ≡ true → takenAfter f j l ≡ pos j ∷ l
 begun-taken f j l e = ap (λ g. takenAfter g j l) (is-begun f e)
@@ -160,21 +168,18 @@ module _ (taken : List ℤ) (k : ℕ) (t : List S.Slot) (s : ℕ) (h : s < lengt
 -- ---- the row of slot s, and what is left to plan after it
 
 module _ (frame : List ℤ) (s : ℕ) where
-  abbrev pub number : ℕ → ℤ
-  number i = getD frame (perSlot * s + i) (pos 0)
+  abbrev pub row : List ℤ
+  row = numbersFrom perSlot frame (perSlot * s)
 
   abbrev pub kind : ℤ
-  kind = getD frame (perSlot * s) (pos 0)
-
-  abbrev pub row : List ℤ
-  row = kind ∷ three (number 1) (number 2) (number 3)
+  kind = kindOf row
 
   module _ (n : ℕ) (l : s < n) where
     abbrev pub rest : List (List ℤ)
     rest = rowsFrom perSlot (n - (s + 1)) frame (perSlot * (s + 1))
 
     rows-are : rowsFrom perSlot (n - s) frame (perSlot * s) ≡ row ∷ rest
-    rows-are = rows-next 4 n s frame l ∙ ap {B = List (List ℤ)} (λ r. r ∷ rest) (row-of-four frame (perSlot * s))
+    rows-are = rows-next perSlot n s frame l
 
     plain : plainRows (rowsFrom perSlot (n - s) frame (perSlot * s)) ≡ true → (plainRow row && plainRows rest) ≡ true
     plain e = sym (ap plainRows rows-are) ∙ e
@@ -188,7 +193,7 @@ module _ (frame : List ℤ) (s : ℕ) where
     -- Once slot s is w, the ids taken are `more` and the counter is m.
     pub row-turn : (taken : List ℤ) (k : ℕ) (t : List S.Slot) (h : s < length t) (w : S.Slot) (more : List ℤ) (m : ℕ)
         → (let f = fate kind (getD t s blank .id .0) in let j = freeId taken k in
-        slotOf w ≡ slotAfter f j (slotOf (getD t s blank)) (three (number 1) (number 2) (number 3))
+        slotOf w ≡ slotAfter f j (slotOf (getD t s blank)) (numbersOf row)
         → Same (takenAfter f j taken) more → counterAfter f j k ≡ m
         → planFrom taken k n frame t s ≡ planFrom more m n frame (set t s w) (s + 1))
     row-turn taken k t h w more m e same count =
@@ -201,7 +206,7 @@ pub no-row : (taken : List ℤ) (k n : ℕ) (frame : List ℤ) (t : List S.Slot)
 no-row taken k n frame t s h =
     let z : n - s ≡ 0 = omega arith in
     let front = tableOf (take s t) in
-    let none : rowsFrom perSlot (n - s) frame (perSlot * s) ≡ [] = ap (λ m. rowsFrom perSlot m frame (perSlot * s)) z ∙ rows-none 4 frame (perSlot * s) in
+    let none : rowsFrom perSlot (n - s) frame (perSlot * s) ≡ [] = ap (λ m. rowsFrom perSlot m frame (perSlot * s)) z ∙ rows-none perSlot frame (perSlot * s) in
     let all = sym (map-append slotOf (take s t) (drop s t)) ∙ ap tableOf (take-append-drop s t) in
     ap (λ r. after front (planned taken k r (tableOf (drop s t)))) none ∙ ap (λ x. record { table = x; counter = k }) all
 

@@ -4,7 +4,7 @@ use mathlib.Core.Bool.{Bool, true, false, _&&_, _||_}
 use mathlib.Core.List.{List, [], _∷_}
 use Prim.Native.Nat.{ℕ, _-_, _*_, _<_, _≤_}
 use lib.IntN.{ℤ, pos}
-use lib.ListN.{length, take, drop}
+use lib.ListN.{length, take, drop, getD}
 use lib.Signed.{leZ}
 use Rattle.model.specs.Panel.{idCount, perSlot, records}
 use Rattle.model.specs.Numbers.{eqZ, minusOne}
@@ -23,17 +23,24 @@ begun goesOn = false
 begun begins = true
 
 -- A slot with an id and the bits of its row's numbers: no good row has a negative one.
-abbrev pub contactOf : ℤ → ℤ → ℤ → ℤ → Slot
-contactOf i x y p = record { id = record { 0 = i }; x = bitsOf x; y = bitsOf y; pressure = bitsOf p }
+abbrev pub contactOf : ℤ → List ℤ → Slot
+contactOf i g = record {
+  id = record { 0 = i };
+  x = bitsOf (getD g 1 (pos 0));
+  y = bitsOf (getD g 2 (pos 0));
+  pressure = bitsOf (getD g 3 (pos 0));
+  major = bitsOf (getD g 4 (pos 0));
+  minor = bitsOf (getD g 5 (pos 0));
+}
 
 -- A slot without a contact: its other numbers stay.
 abbrev pub lifted : Slot → Slot
-lifted was = record { id = record { 0 = minusOne }; x = was .x; y = was .y; pressure = was .pressure }
+lifted was = record { id = record { 0 = minusOne }; x = was .x; y = was .y; pressure = was .pressure; major = was .major; minor = was .minor }
 
 -- A slot in which no contact begins, by whether its kind is 0.
-abbrev pub stayed : Bool → Slot → ℤ → ℤ → ℤ → Slot
-stayed true was x y p = lifted was
-stayed false was x y p = contactOf (was .id .0) x y p
+abbrev pub stayed : Bool → Slot → List ℤ → Slot
+stayed true was g = lifted was
+stayed false was g = contactOf (was .id .0) g
 
 -- No number is negative.
 abbrev pub unsigned : List ℤ → Bool

@@ -8,11 +8,12 @@ ghost use Rattle.model.specs.Panel.{idCount, perSlot, records};
 ghost use Rattle.model.specs.Numbers.{eqZ};
 ghost use Rattle.model.specs.Table.{ids, unheld};
 ghost use Rattle.model.specs.Frame.{fate, freeId, next, rowsFrom, framed};
-ghost use Rattle.panel.specs.Seen.{tableOf, unusedAll, sameFrom};
+ghost use Rattle.panel.specs.Seen.{rowOf, tableOf, unusedAll, sameFrom};
 ghost use Rattle.plan.specs.Row.{begun, contactOf, lifted, stayed, plainRows, plannedOf, RowsLeft, planFrom};
 use common::TrackingId;
 use panel::PER_SLOT;
 use panel::RECORDS;
+use panel::Row;
 use panel::Slot;
 
 // The most ids that are taken in a frame: every old one, and one given to each slot.
@@ -93,18 +94,22 @@ fn begins(kind: i32, id: TrackingId) -> bool
     common::same(id.0, TrackingId::UNUSED)
 }
 
-// A slot that has a contact: its id and the frame's numbers, which are not negative, so that their bits are they themselves.
-fn contact(id: TrackingId, x: i32, y: i32, pressure: i32) -> Slot
-    ensures { λ r. ⌜ r ≡ contactOf (id .0) x y pressure ⌝ }
+// A slot that has a contact: its id and the row's numbers, which are not negative, so that their bits are they themselves.
+fn contact(id: TrackingId, r: Row) -> Slot
+    ensures { λ s. ⌜ s ≡ contactOf (id .0) (rowOf r) ⌝ }
 {
-    let a = records::bits_of(x);
-    let b = records::bits_of(y);
-    let c = records::bits_of(pressure);
+    let a = records::bits_of(r.x);
+    let b = records::bits_of(r.y);
+    let c = records::bits_of(r.pressure);
+    let d = records::bits_of(r.major);
+    let e = records::bits_of(r.minor);
     Slot {
         id,
         x: a,
         y: b,
         pressure: c,
+        major: d,
+        minor: e,
     }
 }
 
@@ -117,17 +122,19 @@ fn lift(was: Slot) -> Slot
         x: was.x,
         y: was.y,
         pressure: was.pressure,
+        major: was.major,
+        minor: was.minor,
     }
 }
 
-fn stays(kind: i32, was: Slot, x: i32, y: i32, pressure: i32) -> Slot
-    ensures { λ r. ⌜ r ≡ stayed (eqZ kind (pos 0)) was x y pressure ⌝ }
+fn stays(was: Slot, r: Row) -> Slot
+    ensures { λ s. ⌜ s ≡ stayed (eqZ (r .first) (pos 0)) was (rowOf r) ⌝ }
 {
-    if common::same(kind, 0) {
+    if common::same(r.first, 0) {
         return lift(was);
     }
     let id = was.id;
-    contact(id, x, y, pressure)
+    contact(id, r)
 }
 
 pub struct Planned {
@@ -153,14 +160,13 @@ fn give_ids(
     let mut k = counter;
     let mut s = from;
     while s < n {
-        let i = PER_SLOT * s;
-        let kind = frame[i];
+        let r = panel::row_at(frame, PER_SLOT * s);
         let was = t[s];
         let id = was.id;
-        if begins(kind, id) {
+        if begins(r.first, id) {
             let j = choose(&taken[..m], k);
             let v = id_of(j);
-            let w = contact(v, frame[i + 1], frame[i + 2], frame[i + 3]);
+            let w = contact(v, r);
             t[s] = w;
             let q = v.0;
             taken[m] = q;
@@ -168,7 +174,7 @@ fn give_ids(
             k = after(j);
             s += 1;
         } else {
-            let w = stays(kind, was, frame[i + 1], frame[i + 2], frame[i + 3]);
+            let w = stays(was, r);
             t[s] = w;
             s += 1;
         }
@@ -187,19 +193,18 @@ pub fn plan_frame(n: usize, old: [Slot; RECORDS], counter: u32, frame: &[i32]) -
     let mut t = old;
     let mut s: usize = 0;
     while s < n {
-        let i = PER_SLOT * s;
-        let kind = frame[i];
+        let r = panel::row_at(frame, PER_SLOT * s);
         let was = t[s];
-        if common::same(kind, 0) {
+        if common::same(r.first, 0) {
             let w = lift(was);
             t[s] = w;
             s += 1;
         } else {
             let id = was.id;
-            if begins(kind, id) {
+            if begins(r.first, id) {
                 return give_ids(n, old, t, counter, frame, s);
             }
-            let w = contact(id, frame[i + 1], frame[i + 2], frame[i + 3]);
+            let w = contact(id, r);
             t[s] = w;
             s += 1;
         }

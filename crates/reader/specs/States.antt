@@ -30,13 +30,13 @@ held s = record {
   mode = modeFrom (s .reader .mode);
 }
 
--- The setup of four numbers.
-abbrev pub given : ℕ → ℕ → ℕ → ℕ → Setup
-given n x y p = record { n = n; x = x; y = y; pressure = p }
+-- The setup of these numbers.
+abbrev pub given : ℕ → ℕ → ℕ → ℕ → ℕ → ℕ → Setup
+given n x y p major minor = record { n = n; x = x; y = y; pressure = p; major = major; minor = minor }
 
 -- Zeros and mode following.
 abbrev pub noState : ReaderState
-noState = record { setup = given 0 0 0 0; shown = zeros; pending = zeros; current = record { 0 = 0 }; mode = Following }
+noState = record { setup = given 0 0 0 0 0 0; shown = zeros; pending = zeros; current = record { 0 = 0 }; mode = Following }
 
 -- ---- answers
 

@@ -68,6 +68,8 @@ fn no_state() -> ReaderState
             x: 0,
             y: 0,
             pressure: 0,
+            major: 0,
+            minor: 0,
         },
         shown: t,
         pending: t,
@@ -77,11 +79,18 @@ fn no_state() -> ReaderState
 }
 
 impl ReaderState {
-    // The fresh state of a panel, for any four numbers: refusal 1.
-    pub fn fresh(n: usize, x: u32, y: u32, pressure: u32) -> FreshAnswer
-        ensures { λ r. ⌜ r ≡ freshFrom (freshReaderCall base (setupOf (given n x y pressure))) ⌝ }
+    // The fresh state of a panel, for any six numbers: refusal 1.
+    pub fn fresh(n: usize, x: u32, y: u32, pressure: u32, major: u32, minor: u32) -> FreshAnswer
+        ensures { λ r. ⌜ r ≡ freshFrom (freshReaderCall base (setupOf (given n x y pressure major minor))) ⌝ }
     {
-        let setup = Setup { n, x, y, pressure };
+        let setup = Setup {
+            n,
+            x,
+            y,
+            pressure,
+            major,
+            minor,
+        };
         if !panel::setup_ok(setup) {
             return FreshAnswer {
                 verdict: Verdict::Setup,

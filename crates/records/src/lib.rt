@@ -7,7 +7,7 @@ ghost use Rattle.records.specs.Seen.{eventOf, over};
 
 pub const LENGTH: usize = 8;
 
-// Types and codes that document 01 lists.
+// Types and codes that documents 01 and 02 list.
 pub const SYN: u16 = 0;
 
 pub const ABS: u16 = 3;
@@ -17,6 +17,10 @@ pub const REPORT: u16 = 0;
 pub const DROPPED: u16 = 3;
 
 pub const SLOT: u16 = 0x2f;
+
+pub const TOUCH_MAJOR: u16 = 0x30;
+
+pub const TOUCH_MINOR: u16 = 0x31;
 
 pub const POSITION_X: u16 = 0x35;
 

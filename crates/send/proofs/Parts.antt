@@ -14,7 +14,7 @@ use Rattle.panel.specs.declared.Slot.{Slot}
 use Rattle.panel.specs.Seen.{slotOf}
 use Rattle.common.proofs.Signs.{eq-bits}
 use Rattle.records.proofs.Bits.{bits-same}
-use Rattle.send.specs.Sent.{codes, bytesSent, noneIf, numberBytes}
+use Rattle.send.specs.Sent.{codes, bytesSent, noneIf, numberBytes, contactBytes, sizeBytes}
 
 -- ---- lists of what is sent
 
@@ -53,21 +53,27 @@ unless-bytes false x l = sent-cons x l
 same-id : (a b : ℤ) → SFits w32 a → SFits w32 b → eqb (bitsOf a) (bitsOf b) ≡ eqZ a b
 same-id a b f g = ap₂ eqb (sym (bits-same a)) (sym (bits-same b)) ∙ eq-bits a b f g
 
+-- A number that is not an id, in front of what comes after it.
+number-bytes : (i code o v : ℕ) (l : List Sent) (m : List ℕ) → eventBytes (eventOf codes (sendNumber i (pos v))) ≡ recordBytes 3 code v → bytesSent l ≡ m
+    → bytesSent (unless (eqb o v) (sendNumber i (pos v)) l) ≡ numberBytes code o v ++ m
+number-bytes i code o v l m e h = unless-bytes (eqb o v) (sendNumber i (pos v)) l ∙ ap₂ (λ x y. noneIf (eqb o v) x ++ y) e h
+
 pub changes-bytes : (o v : Slot) → SFits w32 (o .id .0) → SFits w32 (v .id .0)
-    → bytesSent (changes 0 (slotOf o) (slotOf v))
-    ≡ (numberBytes 0x39 (bitsOf (o .id .0)) (bitsOf (v .id .0)) ++ numberBytes 0x35 (o .x) (v .x)) ++ (numberBytes 0x36 (o .y) (v .y) ++ numberBytes 0x3a (o .pressure) (v .pressure))
+    → bytesSent (changes 0 (slotOf o) (slotOf v)) ≡ contactBytes o v ++ sizeBytes o v
 changes-bytes o v f g =
     let a0 = numberBytes 0x39 (bitsOf (o .id .0)) (bitsOf (v .id .0)) in
     let a1 = numberBytes 0x35 (o .x) (v .x) in
     let a2 = numberBytes 0x36 (o .y) (v .y) in
     let a3 = numberBytes 0x3a (o .pressure) (v .pressure) in
-    let c3 = unless (eqb (o .pressure) (v .pressure)) (sendNumber 3 (pos (v .pressure))) [] in
-    let c2 = unless (eqb (o .y) (v .y)) (sendNumber 2 (pos (v .y))) c3 in
-    let c1 = unless (eqb (o .x) (v .x)) (sendNumber 1 (pos (v .x))) c2 in
-    let e3 : bytesSent c3 ≡ a3 = unless-bytes (eqb (o .pressure) (v .pressure)) (sendNumber 3 (pos (v .pressure))) [] ∙ ap₂ (λ l m. noneIf (eqb (o .pressure) (v .pressure)) l ++ m) (natural-bits 0x3a (v .pressure)) sent-nil ∙ append-nil a3 in
-    let e2 : bytesSent c2 ≡ a2 ++ a3 = unless-bytes (eqb (o .y) (v .y)) (sendNumber 2 (pos (v .y))) c3 ∙ ap₂ (λ l m. noneIf (eqb (o .y) (v .y)) l ++ m) (natural-bits 0x36 (v .y)) e3 in
-    let e1 : bytesSent c1 ≡ a1 ++ (a2 ++ a3) = unless-bytes (eqb (o .x) (v .x)) (sendNumber 1 (pos (v .x))) c2 ∙ ap₂ (λ l m. noneIf (eqb (o .x) (v .x)) l ++ m) (natural-bits 0x35 (v .x)) e2 in
-    unless-bytes (eqZ (o .id .0) (v .id .0)) (sendNumber 0 (v .id .0)) c1
+    let a4 = numberBytes 0x30 (o .major) (v .major) in
+    let a5 = numberBytes 0x31 (o .minor) (v .minor) in
+    let e5 = number-bytes 5 0x31 (o .minor) (v .minor) [] [] (natural-bits 0x31 (v .minor)) sent-nil ∙ append-nil a5 in
+    let e4 = number-bytes 4 0x30 (o .major) (v .major) _ a5 (natural-bits 0x30 (v .major)) e5 in
+    let e3 = number-bytes 3 0x3a (o .pressure) (v .pressure) _ (a4 ++ a5) (natural-bits 0x3a (v .pressure)) e4 in
+    let e2 = number-bytes 2 0x36 (o .y) (v .y) _ (a3 ++ (a4 ++ a5)) (natural-bits 0x36 (v .y)) e3 in
+    let e1 = number-bytes 1 0x35 (o .x) (v .x) _ (a2 ++ (a3 ++ (a4 ++ a5))) (natural-bits 0x35 (v .x)) e2 in
+    unless-bytes (eqZ (o .id .0) (v .id .0)) (sendNumber 0 (v .id .0)) _
     ∙ ap (λ m. noneIf (eqZ (o .id .0) (v .id .0)) (recordBytes 3 0x39 (bitsOf (v .id .0))) ++ m) e1
-    ∙ ap (λ b. noneIf b (recordBytes 3 0x39 (bitsOf (v .id .0))) ++ (a1 ++ (a2 ++ a3))) (sym (same-id (o .id .0) (v .id .0) f g))
-    ∙ sym (append-assoc a0 a1 (a2 ++ a3))
+    ∙ ap (λ b. noneIf b (recordBytes 3 0x39 (bitsOf (v .id .0))) ++ (a1 ++ (a2 ++ (a3 ++ (a4 ++ a5))))) (sym (same-id (o .id .0) (v .id .0) f g))
+    ∙ sym (append-assoc a0 a1 (a2 ++ (a3 ++ (a4 ++ a5))))
+    ∙ sym (append-assoc (a0 ++ a1) (a2 ++ a3) (a4 ++ a5) ∙ ap (λ m. (a0 ++ a1) ++ m) (append-assoc a2 a3 (a4 ++ a5)))

@@ -5,7 +5,7 @@ use Prim.Native.Nat.{ℕ}
 use lib.Dec.{eqb}
 use lib.ListN.{getD}
 use Rattle.model.specs.Panel.{fieldCodes, records}
-use Rattle.model.specs.Records.{recordBytes, bytesOf}
+use Rattle.model.specs.Records.{bitsOf, recordBytes, bytesOf}
 use Rattle.model.specs.Sending as M
 use Rattle.model.specs.Sending.{sendSlot, changes, eventOf}
 use Rattle.model.specs.Order.{ofMask}
@@ -15,7 +15,7 @@ use Rattle.send.specs.declared.Change.{Change}
 
 -- The codes of a slot's fields, which are those of every setup.
 abbrev pub codes : List ℕ
-codes = fieldCodes (fieldsOf (record { n = 0; x = 0; y = 0; pressure = 0 }))
+codes = fieldCodes (fieldsOf (record { n = 0; x = 0; y = 0; pressure = 0; major = 0; minor = 0 }))
 
 -- The bytes of what is sent.
 unfoldable pub bytesSent : List M.Sent → List ℕ
@@ -33,6 +33,15 @@ numberBytes code old new = noneIf (eqb old new) (recordBytes 3 code new)
 -- The record of a change.
 abbrev pub changeBytes : Change → List ℕ
 changeBytes c = numberBytes (c .code) (c .old) (c .new)
+
+-- The records of a slot's changed id, x, y and pressure, and of its changed sizes.
+abbrev pub contactBytes : Slot → Slot → List ℕ
+contactBytes o v =
+    (numberBytes 0x39 (bitsOf (o .id .0)) (bitsOf (v .id .0)) ++ numberBytes 0x35 (o .x) (v .x))
+    ++ (numberBytes 0x36 (o .y) (v .y) ++ numberBytes 0x3a (o .pressure) (v .pressure))
+
+abbrev pub sizeBytes : Slot → Slot → List ℕ
+sizeBytes o v = numberBytes 0x30 (o .major) (v .major) ++ numberBytes 0x31 (o .minor) (v .minor)
 
 -- Slot j's changes, opened by its number.
 abbrev pub openedAt : List Slot → List Slot → ℕ → List M.Sent

@@ -8,7 +8,7 @@ ghost use Rattle.model.specs.Records.{lay};
 ghost use Rattle.model.specs.Sending.{sendSlot, sendReport, changes, lastOpened};
 ghost use Rattle.panel.specs.Seen.{slotOf};
 ghost use Rattle.records.specs.Seen.{over};
-ghost use Rattle.send.specs.Sent.{bytesSent, changeBytes, sentBy};
+ghost use Rattle.send.specs.Sent.{bytesSent, changeBytes, contactBytes, sizeBytes, sentBy};
 use common::SlotNumber;
 use panel::RECORDS;
 use panel::Slot;
@@ -41,9 +41,9 @@ fn put_two(b: &mut [u8], first: Change, second: Change) -> usize
     k + n
 }
 
-fn put_changes(b: &mut [u8], old: Slot, new: Slot) -> usize
-    requires { ⌜ length (bytesSent (changes 0 (slotOf old) (slotOf new))) ≤ length (now b) ⌝ }
-    ensures { λ r. ⌜ (r ≡ length (bytesSent (changes 0 (slotOf old) (slotOf new)))) × (now (b .exit) ≡ over (bytesSent (changes 0 (slotOf old) (slotOf new))) (now (b .entry))) ⌝ }
+fn put_contact(b: &mut [u8], old: Slot, new: Slot) -> usize
+    requires { ⌜ length (contactBytes old new) ≤ length (now b) ⌝ }
+    ensures { λ r. ⌜ (r ≡ length (contactBytes old new)) × (now (b .exit) ≡ over (contactBytes old new) (now (b .entry))) ⌝ }
 {
     let was = old.id;
     let is = new.id;
@@ -69,6 +69,32 @@ fn put_changes(b: &mut [u8], old: Slot, new: Slot) -> usize
     };
     let k = put_two(b, id, x);
     let n = put_two(&mut b[k..], y, pressure);
+    k + n
+}
+
+fn put_sizes(b: &mut [u8], old: Slot, new: Slot) -> usize
+    requires { ⌜ length (sizeBytes old new) ≤ length (now b) ⌝ }
+    ensures { λ r. ⌜ (r ≡ length (sizeBytes old new)) × (now (b .exit) ≡ over (sizeBytes old new) (now (b .entry))) ⌝ }
+{
+    let major = Change {
+        code: records::TOUCH_MAJOR,
+        old: old.major,
+        new: new.major,
+    };
+    let minor = Change {
+        code: records::TOUCH_MINOR,
+        old: old.minor,
+        new: new.minor,
+    };
+    put_two(b, major, minor)
+}
+
+fn put_changes(b: &mut [u8], old: Slot, new: Slot) -> usize
+    requires { ⌜ length (bytesSent (changes 0 (slotOf old) (slotOf new))) ≤ length (now b) ⌝ }
+    ensures { λ r. ⌜ (r ≡ length (bytesSent (changes 0 (slotOf old) (slotOf new)))) × (now (b .exit) ≡ over (bytesSent (changes 0 (slotOf old) (slotOf new))) (now (b .entry))) ⌝ }
+{
+    let k = put_contact(b, old, new);
+    let n = put_sizes(&mut b[k..], old, new);
     k + n
 }
 

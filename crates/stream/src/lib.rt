@@ -205,6 +205,25 @@ pub fn warn_number(out: Out, n: u64) -> Out {
     out.marked(FAILED)
 }
 
+// A number with the words around it.
+pub fn warn_part(out: Out, before: &[u8], v: u64, after: &[u8]) -> Out {
+    let a = warn(out, before);
+    let b = warn_number(a, v);
+    warn(b, after)
+}
+
+// A number that is not 1 to the most, said in a line after the program's name.
+pub fn warn_range(out: Out, name: &[u8], what: &[u8], v: u32, most: u64) -> Out {
+    if 0 < v {
+        if v as u64 <= most {
+            return out;
+        }
+    }
+    let a = warn(out, name);
+    let b = warn_part(a, what, v as u64, b", and must be 1 to ");
+    warn_part(b, b"", most, b"\n")
+}
+
 pub fn warn_refused(out: Out, verdict: common::Verdict) -> Out {
     let o = warn(out.marked(REFUSED), b"refused ");
     let p = warn_number(o, verdict.number() as u64);

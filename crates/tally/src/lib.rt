@@ -34,11 +34,15 @@ fn unlike_id(a: TrackingId, b: TrackingId) -> u32
 }
 
 fn differ(a: Slot, b: Slot) -> u32
-    ensures { λ r. ⌜ (r ≤ 4) × (r ≡ changedIn (slotOf a) (slotOf b)) ⌝ }
+    ensures { λ r. ⌜ (r ≤ perSlot) × (r ≡ changedIn (slotOf a) (slotOf b)) ⌝ }
 {
     let i = a.id;
     let j = b.id;
-    unlike_id(i, j) + (unlike(a.x, b.x) + (unlike(a.y, b.y) + unlike(a.pressure, b.pressure)))
+    unlike_id(i, j)
+        + (unlike(a.x, b.x)
+            + (unlike(a.y, b.y)
+                + (unlike(a.pressure, b.pressure)
+                    + (unlike(a.major, b.major) + unlike(a.minor, b.minor)))))
 }
 
 fn some(d: u32) -> u16

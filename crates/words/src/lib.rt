@@ -2,6 +2,7 @@
 ghost use mathlib.Core.Path.{_≡_};
 ghost use Rattle.pod.specs.Seen.{stateAfter};
 use panel::RECORDS;
+use panel::Setup;
 use panel::Slot;
 use pod::Absolute;
 use pod::BothSticks;
@@ -145,18 +146,36 @@ pub fn feed(page: &mut [u8], out: Out, state: PodState, bytes: &[u8], lines: boo
     Fed { state: s, out: o }
 }
 
+fn say_two(page: &mut [u8], out: Out, a: u32, b: u32) -> Out {
+    let o = say_number(page, out, a as u64);
+    say_number(page, o, b as u64)
+}
+
+// A setup's largest values, each after a blank.
+pub fn say_largest(page: &mut [u8], out: Out, s: Setup) -> Out {
+    let a = say_two(page, out, s.x, s.y);
+    let b = say_number(page, a, s.pressure as u64);
+    say_two(page, b, s.major, s.minor)
+}
+
 fn say_next(page: &mut [u8], out: Out, between: &[u8], n: u32) -> Out {
     let a = stream::say(page, out, between);
     stream::say_number(page, a, n as u64)
 }
 
-// A slot's four numbers with something between them.
+fn say_sizes(page: &mut [u8], out: Out, between: &[u8], major: u32, minor: u32) -> Out {
+    let a = say_next(page, out, between, major);
+    say_next(page, a, between, minor)
+}
+
+// A slot's numbers with something between them.
 pub fn say_slot(page: &mut [u8], out: Out, s: Slot, between: &[u8]) -> Out {
     let id = s.id;
     let a = stream::say_signed(page, out, id.0);
     let b = say_next(page, a, between, s.x);
     let c = say_next(page, b, between, s.y);
-    say_next(page, c, between, s.pressure)
+    let d = say_next(page, c, between, s.pressure);
+    say_sizes(page, d, between, s.major, s.minor)
 }
 
 // A slot on a line of its own, after its number.

@@ -1,23 +1,27 @@
-// Writes frames as events: standard input is n, largest x, y and pressure and then frames of 4n numbers, all 32-bit little-endian; standard output is that header and every record written.
+// Writes frames as events: standard input is n, largest x, y, pressure, major and minor and then frames of 6n numbers, all 32-bit little-endian; standard output is that header and every record written.
 // A refusal is a line on standard error, and the next frame goes on from the state as it was. Input that was lost is passed on as SYN_DROPPED.
 ghost use mathlib.Core.Path.{_≡_};
 ghost use Prim.Native.Nat.{_≤_};
 ghost use lib.ListN.{length, take as first};
+ghost use Rattle.model.specs.Panel.{base};
+ghost use Rattle.model.specs.Calls.{mostEvents};
 use common::Verdict;
 use header::Header;
+use panel::MOST_EVENTS;
+use panel::PER_SLOT;
 use panel::RECORDS;
 use stream::Out;
 use writer::WriterState;
 
-// The bytes of a number and of a slot's four, and the numbers of the largest frame.
+// The bytes of a number and of a slot's, and the numbers of the largest frame.
 const NUMBER: usize = 4;
 
-const ROW: usize = 16;
+const ROW: usize = NUMBER * PER_SLOT;
 
-const NUMBERS: usize = 4 * RECORDS;
+const NUMBERS: usize = PER_SLOT * RECORDS;
 
 // The most bytes that a frame's events take.
-const EVENTS: usize = 640;
+const EVENTS: usize = records::LENGTH * MOST_EVENTS;
 
 // A frame's numbers from its bytes; how many there are.
 fn numbers_of(bytes: &[u8], frame: &mut [i32]) -> usize
@@ -67,7 +71,7 @@ fn roomy(page: &[u8], out: Out) -> Out {
 
 // The output with so many records more, which the writer put on the page.
 fn longer(page: &[u8], out: Out, count: usize) -> Out
-    requires { ⌜ count ≤ 80 ⌝ }
+    requires { ⌜ count ≤ mostEvents base ⌝ }
 {
     let held = stream::within(out.held, page);
     Out {
@@ -79,7 +83,7 @@ fn longer(page: &[u8], out: Out, count: usize) -> Out
 
 // The output after a frame: longer by its records, or its refusal is said.
 fn answered(page: &[u8], out: Out, frame: u64, verdict: Verdict, count: usize) -> Out
-    requires { ⌜ count ≤ 80 ⌝ }
+    requires { ⌜ count ≤ mostEvents base ⌝ }
 {
     if verdict.number() != 0 {
         return warn_frame(out, frame, verdict);
@@ -261,7 +265,7 @@ fn after_setup(page: &mut [u8], out: Out, h: Header) -> Out {
         return refuse_setup(out, h);
     }
     let n = h.n as usize;
-    let a = WriterState::fresh(n, h.x, h.y, h.pressure);
+    let a = WriterState::fresh(n, h.x, h.y, h.pressure, h.major, h.minor);
     let verdict = a.verdict;
     if verdict.number() != 0 {
         return refuse_setup(out, h);

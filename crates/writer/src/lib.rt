@@ -36,10 +36,17 @@ pub struct Written {
 
 impl WriterState {
     // A fresh writer for a panel of n slots and these largest values; refusal 1, and zeros, where one is out of its range.
-    pub fn fresh(n: usize, x: u32, y: u32, pressure: u32) -> FreshWriter
-        ensures { λ r. ⌜ r ≡ freshFrom (freshWriterCall base (setupOf (record { n = n; x = x; y = y; pressure = pressure }))) ⌝ }
+    pub fn fresh(n: usize, x: u32, y: u32, pressure: u32, major: u32, minor: u32) -> FreshWriter
+        ensures { λ r. ⌜ r ≡ freshFrom (freshWriterCall base (setupOf (record { n = n; x = x; y = y; pressure = pressure; major = major; minor = minor }))) ⌝ }
     {
-        let setup = Setup { n, x, y, pressure };
+        let setup = Setup {
+            n,
+            x,
+            y,
+            pressure,
+            major,
+            minor,
+        };
         if !panel::setup_ok(setup) {
             return FreshWriter {
                 verdict: Verdict::Setup,
@@ -49,6 +56,8 @@ impl WriterState {
                         x: 0,
                         y: 0,
                         pressure: 0,
+                        major: 0,
+                        minor: 0,
                     },
                     table: panel::zero_table(),
                     current: SlotNumber(0),

@@ -2,64 +2,78 @@
 
 use super::Maker;
 use crate::reader::{Mode, Reader};
-use crate::table::{Setup, Slot, SlotNumber, Table, TrackingId, EMPTY, LARGEST_POSITION, LARGEST_PRESSURE, SLOTS};
+use crate::table::{Layout, Setup, Slot, SlotNumber, Table, TrackingId, EMPTY, LIMITS, NUMBERS, PRESSURE, X, Y};
 use crate::writer::Writer;
+
+/// What is tried where one of a state's largest values is wrong.
+const LARGEST: [&str; NUMBERS] = [
+    "broken: largest x",
+    "broken: largest y",
+    "broken: largest pressure",
+    "broken: largest major",
+    "broken: largest minor",
+];
+
+/// What is tried where a table is broken: its ids, its numbers, and its records past n.
+type Parts = [&'static str; 3];
+
+const WRITERS: Parts = [
+    "broken: id in the writer's table",
+    "broken: number in the writer's table",
+    "broken: record past n in the writer's table",
+];
+const SHOWN: Parts =
+    ["broken: id in the shown table", "broken: number in the shown table", "broken: record past n in the shown table"];
+const PENDING: Parts = [
+    "broken: id in the pending table",
+    "broken: number in the pending table",
+    "broken: record past n in the pending table",
+];
 
 impl Maker {
     /// One part of what all states share is broken.
-    pub(super) fn break_setup(&mut self, setup: &mut Setup, current: &mut SlotNumber) {
-        match self.random.below(5) {
+    fn break_setup(&mut self, layout: Layout, setup: &mut Setup, current: &mut SlotNumber) {
+        match self.random.below(2 + layout.numbers() as u64) as usize {
             0 => {
                 self.tag("broken: n");
-                setup.slots = self.bad_n(setup.slots);
+                setup.slots = self.bad_n(layout, setup.slots);
             }
             1 => {
-                self.tag("broken: largest x");
-                setup.largest_x = self.bad_largest(setup.largest_x, LARGEST_POSITION);
-            }
-            2 => {
-                self.tag("broken: largest y");
-                setup.largest_y = self.bad_largest(setup.largest_y, LARGEST_POSITION);
-            }
-            3 => {
-                self.tag("broken: largest pressure");
-                setup.largest_pressure = self.bad_largest(setup.largest_pressure, LARGEST_PRESSURE);
-            }
-            _ => {
                 self.tag("broken: current slot");
-                current.0 = self.bad_slot(setup.slots);
+                current.0 = self.bad_slot(layout, setup.slots);
+            }
+            which => {
+                let i = which - 2;
+                self.tag(LARGEST[i]);
+                setup.largest[i] = self.bad_largest(setup.largest[i], LIMITS[i]);
             }
         }
     }
 
-    /// One number of a table broken, within n or past it; the tags say which.
-    pub(super) fn break_table(&mut self, setup: &Setup, table: &mut Table, [id, number, past]: [&'static str; 3]) {
+    /// One number of a table broken, within n or past it.
+    fn break_table(&mut self, layout: Layout, setup: &Setup, table: &mut Table, parts: Parts) {
         let n = setup.slots as usize;
         let s = self.random.below(setup.slots) as usize;
+        let i = self.random.below(layout.numbers() as u64) as usize;
         match self.random.below(3) {
             0 => {
-                self.tag(id);
+                self.tag(parts[0]);
                 table[s].id = TrackingId(self.bad_id());
             }
             1 => {
-                self.tag(number);
-                match self.random.below(3) {
-                    0 => table[s].x = self.bad_held_number(setup.largest_x),
-                    1 => table[s].y = self.bad_held_number(setup.largest_y),
-                    _ => table[s].pressure = self.bad_held_number(setup.largest_pressure),
+                self.tag(parts[1]);
+                table[s].numbers[i] = self.bad_held_number(setup.largest[i]);
+            }
+            _ if n < layout.slots() => {
+                self.tag(parts[2]);
+                let s = self.random.from_to(setup.slots, layout.slots() as u64 - 1) as usize;
+                if self.random.once_in(1 + layout.numbers() as u64) {
+                    table[s].id = TrackingId(self.random.pick(&[0, 1, 65_535, -2]));
+                } else {
+                    table[s].numbers[i] = 1;
                 }
             }
-            _ if n < SLOTS => {
-                self.tag(past);
-                let s = self.random.from_to(setup.slots, SLOTS as u64 - 1) as usize;
-                match self.random.below(4) {
-                    0 => table[s].id = TrackingId(self.random.pick(&[0, 1, 65_535, -2])),
-                    1 => table[s].x = 1,
-                    2 => table[s].y = 1,
-                    _ => table[s].pressure = 1,
-                }
-            }
-            _ => self.break_table(setup, table, [id, number, past]),
+            _ => self.break_table(layout, setup, table, parts),
         }
     }
 
@@ -68,7 +82,7 @@ impl Maker {
         let n = setup.slots;
         match self.random.below(10) {
             0..=3 => {
-                self.break_setup(&mut writer.setup, &mut writer.current);
+                self.break_setup(Layout::Panel, &mut writer.setup, &mut writer.current);
                 // Then no number is above a largest value that is too small, and nothing else is broken.
                 if self.random.once_in(4) {
                     writer.table = EMPTY;
@@ -90,81 +104,42 @@ impl Maker {
             }
             7 => {
                 self.tag("broken: largest below a number in use");
-                writer.table[0].y = 2;
-                writer.setup.largest_y = 1;
+                let i = self.random.below(NUMBERS as u64) as usize;
+                writer.table[0].numbers[i] = 2;
+                writer.setup.largest[i] = 1;
             }
-            _ => self.break_table(
-                &setup,
-                &mut writer.table,
-                [
-                    "broken: id in the writer's table",
-                    "broken: number in the writer's table",
-                    "broken: record past n in the writer's table",
-                ],
-            ),
+            _ => self.break_table(Layout::Panel, &setup, &mut writer.table, WRITERS),
         }
     }
 
     pub(super) fn break_reader(&mut self, reader: &mut Reader) {
-        let n = reader.setup.slots;
-        let setup = reader.setup;
+        let (layout, setup) = (reader.layout, reader.setup);
         match self.random.below(13) {
             0..=3 => {
-                self.break_setup(&mut reader.setup, &mut reader.current);
+                self.break_setup(layout, &mut reader.setup, &mut reader.current);
                 if self.random.once_in(4) {
                     (reader.shown, reader.pending) = (EMPTY, EMPTY);
                 }
             }
-            4 if n > 1 => {
+            4 if setup.slots > 1 => {
                 self.tag("broken: id repeated in the shown table");
-                self.repeat_id(&mut reader.shown, n);
+                self.repeat_id(&mut reader.shown, setup.slots);
                 reader.pending = reader.shown;
             }
-            5 if n > 1 => {
-                self.tag("broken: n cuts off a record in use");
-                let last = n as usize - 1;
-                reader.shown[last].x = 1;
-                if self.random.once_in(2) || reader.mode != Mode::Following {
-                    reader.pending = reader.shown;
-                } else {
-                    reader.pending[last] = Slot::UNUSED;
-                }
-                reader.setup.slots = n - 1;
-                reader.current.0 = 0;
-            }
+            5 if setup.slots > 1 => self.cut_off(reader),
             6 => {
                 self.tag("broken: largest below a number in use");
-                reader.pending[0].pressure = 2;
-                reader.setup.largest_pressure = 1;
+                let i = self.random.below(layout.numbers() as u64) as usize;
+                reader.pending[0].numbers[i] = 2;
+                reader.setup.largest[i] = 1;
                 if reader.mode != Mode::Following {
                     reader.shown = reader.pending;
                 }
             }
-            7 | 8 => {
-                self.tag("broken: pending differs while lost");
-                reader.mode = self.random.pick(&[Mode::Dropped, Mode::Stale]);
-                reader.pending = reader.shown;
-                let s = self.random.below(n) as usize;
-                let slot = &mut reader.pending[s];
-                match self.random.below(4) {
-                    0 if slot.id.is_live() => slot.id = TrackingId::UNUSED,
-                    0 => slot.id = TrackingId(40_000),
-                    1 => slot.x = u32::from(slot.x == 0),
-                    2 => slot.y = u32::from(slot.y == 0),
-                    _ => slot.pressure = u32::from(slot.pressure == 0),
-                }
-            }
+            7 | 8 => self.part_pending(reader),
             9 | 10 => {
                 let mut table = reader.shown;
-                self.break_table(
-                    &setup,
-                    &mut table,
-                    [
-                        "broken: id in the shown table",
-                        "broken: number in the shown table",
-                        "broken: record past n in the shown table",
-                    ],
-                );
+                self.break_table(layout, &setup, &mut table, SHOWN);
                 reader.shown = table;
                 // While lost the two must be equal, or something else would be broken too.
                 if reader.mode != Mode::Following {
@@ -173,16 +148,36 @@ impl Maker {
             }
             _ => {
                 reader.mode = Mode::Following;
-                self.break_table(
-                    &setup,
-                    &mut reader.pending,
-                    [
-                        "broken: id in the pending table",
-                        "broken: number in the pending table",
-                        "broken: record past n in the pending table",
-                    ],
-                );
+                self.break_table(layout, &setup, &mut reader.pending, PENDING);
             }
+        }
+    }
+
+    /// n is one less than the records that are in use.
+    fn cut_off(&mut self, reader: &mut Reader) {
+        self.tag("broken: n cuts off a record in use");
+        reader.setup.slots -= 1;
+        reader.current.0 = 0;
+        let last = reader.setup.slots as usize;
+        let i = self.random.pick(&[X, Y, PRESSURE]);
+        reader.shown[last].numbers[i] = 1;
+        if self.random.once_in(2) || reader.mode != Mode::Following {
+            reader.pending = reader.shown;
+        } else {
+            reader.pending[last] = Slot::UNUSED;
+        }
+    }
+
+    /// While lost, one number is pending that is not shown.
+    fn part_pending(&mut self, reader: &mut Reader) {
+        self.tag("broken: pending differs while lost");
+        reader.mode = self.random.pick(&[Mode::Dropped, Mode::Stale]);
+        reader.pending = reader.shown;
+        let slot = &mut reader.pending[self.random.below(reader.setup.slots) as usize];
+        match self.random.below(reader.layout.slot_numbers() as u64) as usize {
+            0 if slot.id.is_live() => slot.id = TrackingId::UNUSED,
+            0 => slot.id = TrackingId(40_000),
+            which => slot.numbers[which - 1] = u32::from(slot.numbers[which - 1] == 0),
         }
     }
 

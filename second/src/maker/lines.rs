@@ -1,8 +1,9 @@
 //! Lines that are no call: one thing is wrong with each.
 
 use super::Maker;
-use crate::script::{Call, HEAD_NUMBERS, POD_NUMBERS, READER_NUMBERS, SETUP_NUMBERS, WRITER_NUMBERS};
-use crate::table::{SLOTS, SLOT_NUMBERS};
+use crate::script::{head_numbers, reader_numbers, setup_numbers};
+use crate::script::{Call, CRANE, POD_NUMBERS, WRITER_NUMBERS};
+use crate::table::Layout;
 
 /// Numbers that a type cannot hold: the next ones outside, and such as would be cut to good ones.
 type Outside = &'static [&'static str];
@@ -29,7 +30,7 @@ impl Maker {
         }
         let call = match self.call() {
             // It has no number to leave out or to change.
-            Call::Start => Call::Fresh(self.setup()),
+            Call::Start => Call::New(self.setup(Layout::Panel)),
             call => call,
         };
         self.tags.clear();
@@ -47,7 +48,8 @@ impl Maker {
             6..=8 => {
                 self.tag("line: too many numbers");
                 if takes_any_count(&call) {
-                    words = self.random.pick(&["start", "fresh 1 2 3 4"]).split(' ').map(str::to_string).collect();
+                    let full = ["start", "fresh 1 2 3 4 5 6", "new 1 2 3 4 5 6", "crane_fresh 1 2 3 4"];
+                    words = self.random.pick(&full).split(' ').map(str::to_string).collect();
                 }
                 words.push("0".to_string());
             }
@@ -80,15 +82,29 @@ impl Maker {
         let line = call.line();
         self.tags.clear();
         self.tag("line: a word that is nearly one");
-        let (name, numbers) = line.split_at(call.name().len());
-        let word = match self.random.below(5) {
+        let name = call.name();
+        let numbers = &line[name.len()..];
+        let word = match self.random.below(9) {
             0 => name[..1].to_string(),
             1 => name[..name.len() - 1].to_string(),
             2 => name.to_string() + self.random.pick(&["ly", "s", "0", "-", "#"]),
             3 => name[..1].to_uppercase() + &name[1..],
-            _ => other_word(&call).to_string(),
+            4 => other_word(&call),
+            _ => self.other_prefix(&call),
         };
         word + numbers
+    }
+
+    /// What says that a call is on a crane's reader, written otherwise, or in front of a call that is on none.
+    fn other_prefix(&mut self, call: &Call) -> String {
+        let name = call.name();
+        match (call.layout(), name.strip_prefix(CRANE)) {
+            (None, _) => format!("{CRANE}{name}"),
+            (_, Some(name)) => {
+                self.random.pick(&["crane", "crane", "crane-", "cranes_", "_", "Crane_"]).to_string() + name
+            }
+            _ => self.random.pick(&["panel_", "_", "crane", "cranes_"]).to_string() + &name,
+        }
     }
 
     /// One number becomes what a hasty look takes for one.
@@ -116,56 +132,65 @@ impl Maker {
 
     /// One number becomes one that its type cannot hold.
     fn overfill(&mut self, call: &Call, words: &mut [String]) {
-        let (place, outside) = self.typed_number(call, words.len() - 1);
+        let mut places = self.state_places(call);
+        places.extend(self.rest_places(call, words.len() - 1));
+        let (place, outside) = self.random.pick(&places);
         words[place] = self.random.pick(outside).to_string();
     }
 
-    /// The place of some number of a call, and what its type cannot hold.
-    fn typed_number(&mut self, call: &Call, last: usize) -> (usize, Outside) {
-        let setup = [(1, NO_64_BITS), (2, NO_32_BITS), (3, NO_32_BITS), (4, NO_32_BITS)];
-        let tables = if let Call::Write { .. } = call { 1 } else { 2 };
-        let slot = HEAD_NUMBERS + 1 + SLOT_NUMBERS * self.random.below((tables * SLOTS) as u64) as usize;
-        let head = [(SETUP_NUMBERS + 1, NO_64_BITS), (slot, NO_SIGNED_32), (slot + 1, NO_32_BITS)];
-        let more = [(slot + 2, NO_32_BITS), (slot + 3, NO_32_BITS)];
-        let reader = [&setup[..], &head, &more, &[(HEAD_NUMBERS, NO_MODE); 2]].concat();
-        let writer = [&setup[..], &head, &more, &[(HEAD_NUMBERS, NO_32_BITS)]].concat();
-        let places = match call {
-            Call::Fresh(_) | Call::New(_) | Call::Start => setup.to_vec(),
+    /// Places of a call's setup or state, and what their types cannot hold; of its tables one slot.
+    fn state_places(&mut self, call: &Call) -> Vec<(usize, Outside)> {
+        let layout = call.layout().unwrap_or(Layout::Panel);
+        let setup = (1..=setup_numbers(layout)).map(|place| (place, if place == 1 { NO_64_BITS } else { NO_32_BITS }));
+        let (tables, last_of_head) = match call {
+            Call::Start | Call::Pod { .. } => return Vec::new(),
+            Call::Fresh(..) | Call::New(_) => return setup.collect(),
+            Call::Write { .. } => (1, vec![NO_32_BITS]),
+            _ => (2, vec![NO_MODE, NO_MODE]),
+        };
+        let head = head_numbers(layout);
+        let s = self.random.below((tables * layout.slots()) as u64) as usize;
+        let slot = head + 1 + layout.slot_numbers() * s;
+        let numbers = (1..=layout.numbers()).map(|i| (slot + i, NO_32_BITS));
+        setup
+            .chain([(head - 1, NO_64_BITS), (slot, NO_SIGNED_32)])
+            .chain(last_of_head.into_iter().map(|outside| (head, outside)))
+            .chain(numbers)
+            .collect()
+    }
+
+    /// The same of what stands behind the state; `last` is the place of the line's last number.
+    fn rest_places(&mut self, call: &Call, last: usize) -> Vec<(usize, Outside)> {
+        let state = fixed(call);
+        match call {
             Call::Pod { .. } => {
                 let byte = self.random.from_to(3, last as u64) as usize;
                 vec![(1, NO_WAITS), (2, NO_64_BITS), (byte, NO_BYTE), (last, NO_BYTE)]
             }
-            Call::Good { .. } => reader,
-            Call::Run { .. } if last > READER_NUMBERS => [reader, vec![(last, NO_BYTE); 3]].concat(),
-            Call::Run { .. } => reader,
-            Call::One { .. } => {
-                let record = [(last - 2, NO_16_BITS), (last - 1, NO_16_BITS), (last, NO_SIGNED_32)];
-                [&reader[..], &record].concat()
-            }
-            Call::Ask { .. } => [&reader[..], &[(last, NO_64_BITS)]].concat(),
-            Call::Load { .. } if last > READER_NUMBERS + 1 => {
-                [&reader[..], &[(READER_NUMBERS + 1, NO_64_BITS), (last, NO_SIGNED_32)]].concat()
-            }
-            Call::Load { .. } => reader,
+            Call::Run { .. } if last > state => vec![(last, NO_BYTE); 3],
+            Call::One { .. } => vec![(last - 2, NO_16_BITS), (last - 1, NO_16_BITS), (last, NO_SIGNED_32)],
+            Call::Ask { .. } => vec![(last, NO_64_BITS)],
+            Call::Load { .. } if last > state => vec![(state, NO_64_BITS), (last, NO_SIGNED_32)],
             Call::Write { .. } => {
                 let room = [(WRITER_NUMBERS + 1, NO_64_BITS), (WRITER_NUMBERS + 2, NO_SIZE)];
-                let frame = if last > WRITER_NUMBERS + 2 { vec![(last, NO_SIGNED_32)] } else { Vec::new() };
-                [&writer[..], &room, &room, &frame].concat()
+                let frame = if last > state { vec![(last, NO_SIGNED_32)] } else { Vec::new() };
+                [&room[..], &room, &frame].concat()
             }
-        };
-        self.random.pick(&places)
+            _ => Vec::new(),
+        }
     }
 }
 
 /// How many numbers a call has at least.
 fn fixed(call: &Call) -> usize {
+    let layout = call.layout().unwrap_or(Layout::Panel);
     match call {
         Call::Start => 0,
-        Call::Fresh(_) | Call::New(_) => SETUP_NUMBERS,
+        Call::Fresh(..) | Call::New(_) => setup_numbers(layout),
         Call::Pod { .. } => POD_NUMBERS + 1,
-        Call::Ask { .. } | Call::Load { .. } => READER_NUMBERS + 1,
-        Call::One { .. } => READER_NUMBERS + 3,
-        Call::Run { .. } | Call::Good { .. } => READER_NUMBERS,
+        Call::Ask { .. } | Call::Load { .. } => reader_numbers(layout) + 1,
+        Call::One { .. } => reader_numbers(layout) + 3,
+        Call::Run { .. } | Call::Good { .. } => reader_numbers(layout),
         Call::Write { .. } => WRITER_NUMBERS + 2,
     }
 }
@@ -175,10 +200,10 @@ pub(super) fn takes_any_count(call: &Call) -> bool {
     matches!(call, Call::Run { .. } | Call::Load { .. } | Call::Write { .. } | Call::Pod { .. })
 }
 
-/// A word of the same first letter.
-fn other_word(call: &Call) -> &'static str {
-    match call {
-        Call::Fresh(_) => "foo",
+/// A word that begins as the call's does.
+fn other_word(call: &Call) -> String {
+    let word = match call {
+        Call::Fresh(..) => "foo",
         Call::New(_) => "next",
         Call::Run { .. } => "read",
         Call::One { .. } => "open",
@@ -188,5 +213,7 @@ fn other_word(call: &Call) -> &'static str {
         Call::Good { .. } => "get",
         Call::Start => "stop",
         Call::Pod { .. } => "put",
-    }
+    };
+    let prefix = if call.layout() == Some(Layout::Crane) { CRANE } else { "" };
+    format!("{prefix}{word}")
 }

@@ -1,27 +1,35 @@
 //! Setups and numbers: good ones, those at the edges, and those just outside.
 
 use super::Maker;
-use crate::table::{Setup, LARGEST_POSITION, LARGEST_PRESSURE};
+use crate::table::{Layout, Setup, LIMITS, MAJOR, MINOR, NUMBERS, PRESSURE, X, Y};
 
-/// The largest x, y and pressure, in the order of a slot's numbers.
-pub(super) fn limits(setup: &Setup) -> [u32; 3] {
-    [setup.largest_x, setup.largest_y, setup.largest_pressure]
-}
+/// What is tried where one of a setup's largest values is wrong.
+const LARGEST: [&str; NUMBERS] =
+    ["setup: largest x", "setup: largest y", "setup: largest pressure", "setup: largest major", "setup: largest minor"];
 
 impl Maker {
     /// A good setup, now and then at an end of a range.
-    pub(crate) fn setup(&mut self) -> Setup {
+    pub(crate) fn setup(&mut self, layout: Layout) -> Setup {
+        let most = layout.slots() as u64;
         let slots = match self.random.below(10) {
             0..=3 => self.random.from_to(1, 3),
-            4 | 5 => 16,
-            _ => self.random.from_to(1, 16),
+            4 | 5 => most,
+            _ => self.random.from_to(1, most),
         };
-        Setup {
-            slots,
-            largest_x: self.largest(LARGEST_POSITION),
-            largest_y: self.largest(LARGEST_POSITION),
-            largest_pressure: self.largest(LARGEST_PRESSURE),
+        let mut setup = Setup { slots, ..Setup::ZEROS };
+        for (largest, limit) in setup.largest.iter_mut().zip(LIMITS).take(layout.numbers()) {
+            *largest = self.largest(limit);
         }
+        setup
+    }
+
+    /// A panel's setup that a crane knows so.
+    pub(crate) fn panel_setup(&mut self, known: &Setup) -> Setup {
+        let mut setup = self.setup(Layout::Panel);
+        setup.slots = known.slots;
+        let numbers = Layout::Crane.numbers();
+        setup.largest[..numbers].copy_from_slice(&known.largest[..numbers]);
+        setup
     }
 
     fn largest(&mut self, limit: u32) -> u32 {
@@ -34,30 +42,23 @@ impl Maker {
     }
 
     /// A setup that is to make a fresh state or to be refused.
-    pub(crate) fn any_setup(&mut self) -> Setup {
-        let good = self.setup();
+    pub(crate) fn any_setup(&mut self, layout: Layout) -> Setup {
+        let good = self.setup(layout);
         if self.random.once_in(3) {
             self.tag("setup: good");
             return good;
         }
         let mut setup = good;
         for _ in 0..self.random.pick(&[1, 1, 1, 2]) {
-            match self.random.below(4) {
+            match self.random.below(1 + layout.numbers() as u64) as usize {
                 0 => {
                     self.tag("setup: n");
-                    setup.slots = self.bad_n(good.slots);
+                    setup.slots = self.bad_n(layout, good.slots);
                 }
-                1 => {
-                    self.tag("setup: largest x");
-                    setup.largest_x = self.bad_largest(good.largest_x, LARGEST_POSITION);
-                }
-                2 => {
-                    self.tag("setup: largest y");
-                    setup.largest_y = self.bad_largest(good.largest_y, LARGEST_POSITION);
-                }
-                _ => {
-                    self.tag("setup: largest pressure");
-                    setup.largest_pressure = self.bad_largest(good.largest_pressure, LARGEST_PRESSURE);
+                which => {
+                    let i = which - 1;
+                    self.tag(LARGEST[i]);
+                    setup.largest[i] = self.bad_largest(good.largest[i], LIMITS[i]);
                 }
             }
         }
@@ -65,12 +66,13 @@ impl Maker {
     }
 
     /// Sums with 2^8, 2^16 and 2^32 are good numbers again where they are cut to fewer bits.
-    pub(crate) fn bad_n(&mut self, good: u64) -> u64 {
+    pub(crate) fn bad_n(&mut self, layout: Layout, good: u64) -> u64 {
+        let next = layout.slots() as u64 + 1;
         if self.random.once_in(3) {
-            return self.random.pick(&[0, 17]);
+            return self.random.pick(&[0, next]);
         }
         self.random.pick(&[
-            18,
+            next + 1,
             200,
             (1 << 8) + good,
             (1 << 16) + good,
@@ -90,9 +92,10 @@ impl Maker {
     }
 
     /// A slot number of n or more, which cut to fewer bits may be a good one.
-    pub(super) fn bad_slot(&mut self, n: u64) -> u64 {
+    pub(super) fn bad_slot(&mut self, layout: Layout, n: u64) -> u64 {
+        let most = layout.slots() as u64;
         if self.random.once_in(2) {
-            return self.random.pick(&[n, n, n + 1, 16.max(n), 17]);
+            return self.random.pick(&[n, n, n + 1, most, most + 1]);
         }
         let looks_good = (1 << self.random.pick(&[8, 16, 31, 32, 63])) + self.random.below(n);
         self.random.pick(&[looks_good, looks_good, looks_good, u64::MAX])
@@ -108,6 +111,11 @@ impl Maker {
         }
     }
 
+    /// Which of a slot's numbers: those with more bits more often.
+    pub(super) fn any_number(&mut self) -> usize {
+        self.random.pick(&[X, X, X, Y, Y, Y, PRESSURE, PRESSURE, MAJOR, MAJOR, MINOR, MINOR])
+    }
+
     /// The pressure of a contact in a frame: 1 to `largest`, often 1.
     pub(super) fn pressing(&mut self, largest: u32) -> u32 {
         self.number(largest).max(1)
@@ -116,10 +124,10 @@ impl Maker {
     /// Another number in the range, often the next one or one that differs in a bit alone.
     pub(super) fn other_number(&mut self, old: u32, largest: u32) -> u32 {
         let one_bit: Vec<u32> = (0..15).map(|bit| old ^ 1 << bit).filter(|other| *other <= largest).collect();
-        match self.random.below(6) {
+        match self.random.below(7) {
             0 => old.saturating_add(1).min(largest),
             1 => old.saturating_sub(1).min(largest),
-            2 | 3 if !one_bit.is_empty() => self.random.pick(&one_bit),
+            2..=4 if !one_bit.is_empty() => self.random.pick(&one_bit),
             _ => self.number(largest),
         }
     }
@@ -144,6 +152,8 @@ impl Maker {
             -5,
             32_768,
             (1 << 16) + cut,
+            (1 << 16) + cut,
+            i32::MIN + cut,
             i32::MIN + cut,
             i32::MAX,
         ])

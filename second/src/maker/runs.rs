@@ -1,22 +1,25 @@
 //! Calls that read records: runs of any length, and single ones.
 
-use super::{Maker, LONGEST_RUN};
-use crate::events::{Event, ABS_MT_POSITION_X, KNOWN_TYPES, RECORD};
+use super::Maker;
+use crate::events::{Event, KNOWN_TYPES, RECORD};
 use crate::reader::{Mode, Reader};
-use crate::script::Call;
-use crate::table::live_ids_differ;
+use crate::script::{reader_numbers, Call, MOST_NUMBERS};
+use crate::table::{live_ids_differ, Layout};
 use crate::writer::{Writer, LARGEST_FRAME};
 
 /// A run of more records is rare, and a long one.
 const SHORT_RUN: u64 = 40;
 /// More than a count of 8 bits holds.
 const MANY: u64 = 300;
-/// The longest run, but for one record: a run that is made ragged must still fit its line.
-const MOST: u64 = LONGEST_RUN as u64 - 1;
+
+/// The longest run behind such a reader, but for one record: a run that is made ragged must still fit its line.
+fn most(layout: Layout) -> u64 {
+    ((MOST_NUMBERS - reader_numbers(layout)) / RECORD) as u64 - 1
+}
 
 impl Maker {
-    pub(super) fn run(&mut self) -> Call {
-        let (which, mut reader) = self.reader();
+    pub(super) fn run(&mut self, layout: Layout) -> Call {
+        let (which, mut reader) = self.reader(layout);
         let kept = !self.random.once_in(6);
         let mut bytes = self.run_bytes(&reader);
         if !kept {
@@ -44,24 +47,18 @@ impl Maker {
             return Vec::new();
         }
         if self.random.once_in(4) {
-            self.tag("run: what a writer sends");
-            let mut writer =
-                Writer { setup: reader.setup, current: reader.current, counter: self.window(), table: reader.shown };
-            let frame = self.frame(&writer);
-            let mut buffer = [0; LARGEST_FRAME];
-            let written = writer.write(&frame, &mut buffer, 0).expect("a reader's shown table is a writer's");
-            return buffer[..written.events as usize * RECORD].to_vec();
+            return self.sent(reader);
         }
         // A lost reader would only ignore them.
-        if reader.mode == Mode::Following && self.random.once_in(25) {
+        if reader.mode == Mode::Following && self.random.once_in(15) {
             return self.many_alike(reader);
         }
         if reader.mode == Mode::Following && self.random.once_in(8) {
             return self.around_loss(reader);
         }
-        let count = if self.random.once_in(60) {
+        let count = if self.random.once_in(30) {
             self.tag("run: long");
-            self.random.from_to(MANY, MOST)
+            self.random.from_to(MANY, most(reader.layout))
         } else {
             match self.random.below(3) {
                 0 => self.random.from_to(1, 4),
@@ -80,18 +77,46 @@ impl Maker {
         bytes
     }
 
+    /// The records of one frame or a few, from a writer that has what this reader shows.
+    fn sent(&mut self, reader: &Reader) -> Vec<u8> {
+        self.tag("run: what a writer sends");
+        let mut writer = self.writer_beside(reader);
+        let mut bytes = Vec::new();
+        for _ in 0..self.random.pick(&[1, 1, 2, 3]) {
+            let frame = self.frame(&writer);
+            let mut buffer = [0; LARGEST_FRAME];
+            let written = writer.write(&frame, &mut buffer, 0).expect("a reader's shown table is a writer's");
+            bytes.extend(&buffer[..written.events as usize * RECORD]);
+        }
+        bytes
+    }
+
+    /// A panel's writer has touch sizes that a crane does not know of.
+    fn writer_beside(&mut self, reader: &Reader) -> Writer {
+        let (mut setup, mut table) = (reader.setup, reader.shown);
+        if reader.layout == Layout::Crane {
+            setup = self.panel_setup(&reader.setup);
+            for slot in &mut table[..setup.slots as usize] {
+                for i in Layout::Crane.numbers()..Layout::Panel.numbers() {
+                    slot.numbers[i] = self.number(setup.largest[i]);
+                }
+            }
+        }
+        Writer { setup, current: reader.current, counter: self.window(), table }
+    }
+
     /// Hundreds of records that add to one count: skipped for either reason, shown, or ignored behind a loss.
     fn many_alike(&mut self, reader: &Reader) -> Vec<u8> {
         self.tag("run: many alike");
-        let some = self.random.from_to(MANY, MOST);
-        let count = self.random.pick(&[some, MOST]);
-        let which = self.random.below(5);
-        let mut bytes = if which == 4 { Event::DROPPED.to_bytes().to_vec() } else { Vec::new() };
+        let some = self.random.from_to(MANY, most(reader.layout));
+        let count = self.random.pick(&[some, most(reader.layout)]);
+        let which = self.random.below(4);
+        let mut bytes = if which == 3 { Event::DROPPED.to_bytes().to_vec() } else { Vec::new() };
         while bytes.len() < count as usize * RECORD {
             let event = match which {
                 _ if self.random.once_in(50) => self.event(reader, false),
-                0 => self.unknown_where(|kind| !KNOWN_TYPES.contains(&kind)),
-                1 => self.unknown_where(|kind| KNOWN_TYPES.contains(&kind)),
+                0 => self.unknown_where(reader.layout, |kind| !KNOWN_TYPES.contains(&kind)),
+                1 => self.unknown_where(reader.layout, |kind| KNOWN_TYPES.contains(&kind)),
                 _ => Event::REPORT,
             };
             bytes.extend(event.to_bytes());
@@ -108,34 +133,35 @@ impl Maker {
             events.push(self.listed_event(reader));
         }
         for _ in 0..before {
-            events.push(self.unknown_event());
+            events.push(self.unknown_event(reader.layout));
         }
-        let bad = Event::abs(ABS_MT_POSITION_X, self.bad_number(reader.setup.largest_x));
+        let bad = self.bad_value(reader);
         events.push(self.random.pick(&[Event::DROPPED, Event::DROPPED, bad]));
         // Dropped or stale.
         for _ in 0..self.random.below(2) {
             events.push(Event::REPORT);
         }
         for _ in 0..behind {
-            events.push(self.unknown_event());
+            events.push(self.unknown_event(reader.layout));
         }
         events.iter().flat_map(|event| event.to_bytes()).collect()
     }
 
-    pub(super) fn one(&mut self) -> Call {
-        let (which, mut reader) = self.reader();
+    pub(super) fn one(&mut self, layout: Layout) -> Call {
+        let (which, mut reader) = self.reader(layout);
         let kept = !self.random.once_in(6);
         let rough = self.random.once_in(4);
         self.tag(if rough { "one: rough" } else { "one: calm" });
         let event = if rough {
             self.rough_event(&reader)
-        } else if self.random.once_in(4) {
-            self.next_unknown()
+        } else if !live_ids_differ(&reader.pending) && self.random.once_in(2) {
+            Event::REPORT
+        } else if kept && reader.mode == Mode::Following && self.random.once_in(2) {
+            // Not where it would be ignored: each is to be named in its turn.
+            self.next_unknown(layout)
         } else if reader.mode != Mode::Following && self.random.once_in(4) {
             // The two that can move a lost reader on.
             self.random.pick(&[Event::REPORT, Event::DROPPED])
-        } else if !live_ids_differ(&reader.pending) && self.random.once_in(2) {
-            Event::REPORT
         } else {
             self.event(&reader, false)
         };
@@ -145,13 +171,5 @@ impl Maker {
             self.break_reader(&mut reader);
         }
         Call::One { reader, event }
-    }
-
-    /// The kept reader moves on by a call, where the call was on it.
-    pub(super) fn keep(&mut self, which: usize, reader: &Reader, call: impl FnOnce(&mut Reader) -> bool) {
-        let mut moved = reader.clone();
-        if call(&mut moved) && self.readers[which] == *reader {
-            self.readers[which] = moved;
-        }
     }
 }

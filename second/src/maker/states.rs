@@ -3,12 +3,12 @@
 use super::ids::Ids;
 use super::{Maker, KEPT_STATES};
 use crate::reader::{Mode, Reader};
-use crate::table::{Setup, SlotNumber, Table, TrackingId, EMPTY};
+use crate::table::{Layout, Setup, SlotNumber, Table, TrackingId, EMPTY, PRESSURE};
 use crate::writer::Writer;
 
 impl Maker {
     /// A well-formed table; about half its slots are live, or all.
-    pub(super) fn any_table(&mut self, setup: &Setup, ids: Ids) -> Table {
+    pub(super) fn any_table(&mut self, layout: Layout, setup: &Setup, ids: Ids) -> Table {
         let all = self.random.once_in(4) || matches!(ids, Ids::Block { .. });
         let mut table = EMPTY;
         for (slot, id) in table.iter_mut().zip(self.ids_of_slots(ids)).take(setup.slots as usize) {
@@ -17,33 +17,34 @@ impl Maker {
             }
             // An unused slot keeps numbers too, but many are as they were at the start.
             if slot.id.is_live() || self.random.once_in(2) {
-                slot.x = self.number(setup.largest_x);
-                slot.y = self.number(setup.largest_y);
-                slot.pressure = self.number(setup.largest_pressure);
+                for i in 0..layout.numbers() {
+                    slot.numbers[i] = self.number(setup.largest[i]);
+                }
             }
         }
         table
     }
 
     fn any_writer(&mut self) -> Writer {
-        let setup = self.setup();
+        let setup = self.setup(Layout::Panel);
         let ids = self.ids();
-        let mut table = self.any_table(&setup, ids);
+        let mut table = self.any_table(Layout::Panel, &setup, ids);
         // Where contacts press with 0, as older tables have it, no frame leaves the table as it is.
         if !self.random.once_in(3) {
-            for slot in table.iter_mut().filter(|slot| slot.id.is_live() && slot.pressure == 0) {
-                slot.pressure = self.pressing(setup.largest_pressure);
+            for slot in table.iter_mut().filter(|slot| slot.id.is_live() && slot.numbers[PRESSURE] == 0) {
+                slot.numbers[PRESSURE] = self.pressing(setup.largest[PRESSURE]);
             }
         }
         let current = SlotNumber(self.random.below(setup.slots));
         Writer { setup, current, counter: self.counter(ids, &table), table }
     }
 
-    fn any_reader(&mut self) -> Reader {
-        let setup = self.setup();
+    fn any_reader(&mut self, layout: Layout) -> Reader {
+        let setup = self.setup(layout);
         let ids = self.ids();
-        let shown = self.any_table(&setup, ids);
+        let shown = self.any_table(layout, &setup, ids);
         let mut reader = Reader {
+            layout,
             setup,
             current: SlotNumber(self.random.below(setup.slots)),
             mode: self.random.pick(&[Mode::Following, Mode::Following, Mode::Dropped, Mode::Stale]),
@@ -61,12 +62,10 @@ impl Maker {
         let setup = reader.setup;
         for _ in 0..self.random.from_to(1, 4) {
             let s = self.random.below(setup.slots) as usize;
-            match self.random.below(5) {
-                0 => reader.pending[s].x = self.number(setup.largest_x),
-                1 => reader.pending[s].y = self.number(setup.largest_y),
-                2 => reader.pending[s].pressure = self.number(setup.largest_pressure),
-                3 => reader.pending[s].id = TrackingId(self.random.below(65_536) as i32),
-                _ => reader.pending[s].id = TrackingId::UNUSED,
+            match self.random.below(2 + reader.layout.numbers() as u64) as usize {
+                0 => reader.pending[s].id = TrackingId(self.random.below(65_536) as i32),
+                1 => reader.pending[s].id = TrackingId::UNUSED,
+                which => reader.pending[s].numbers[which - 2] = self.number(setup.largest[which - 2]),
             }
         }
         if setup.slots > 1 && self.random.once_in(2) {
@@ -81,7 +80,7 @@ impl Maker {
     pub(super) fn writer(&mut self) -> (usize, Writer) {
         let which = self.random.below(KEPT_STATES as u64) as usize;
         if self.random.once_in(25) {
-            let setup = self.setup();
+            let setup = self.setup(Layout::Panel);
             self.writers[which] = Writer::fresh(setup).expect("a good setup");
         }
         if self.random.once_in(3) {
@@ -96,22 +95,39 @@ impl Maker {
         (which, self.writers[which].clone())
     }
 
-    pub(super) fn reader(&mut self) -> (usize, Reader) {
+    /// The same of such a reader.
+    pub(super) fn reader(&mut self, layout: Layout) -> (usize, Reader) {
         let which = self.random.below(KEPT_STATES as u64) as usize;
-        let lost = self.readers[which].mode != Mode::Following;
+        let lost = self.kept(layout)[which].mode != Mode::Following;
         if self.random.once_in(if lost { 3 } else { 25 }) {
-            let setup = self.setup();
-            self.readers[which] = Reader::fresh(setup).expect("a good setup");
+            let setup = self.setup(layout);
+            self.kept(layout)[which] = Reader::fresh(layout, setup).expect("a good setup");
         }
         if self.random.once_in(3) {
             self.tag("state: any well-formed one");
-            let reader = self.any_reader();
+            let reader = self.any_reader(layout);
             if self.random.once_in(3) {
-                self.readers[which] = reader.clone();
+                self.kept(layout)[which] = reader.clone();
             }
             return (which, reader);
         }
         self.tag("state: reached by calls");
-        (which, self.readers[which].clone())
+        (which, self.kept(layout)[which].clone())
+    }
+
+    pub(super) fn kept(&mut self, layout: Layout) -> &mut [Reader] {
+        match layout {
+            Layout::Panel => &mut self.readers,
+            Layout::Crane => &mut self.cranes,
+        }
+    }
+
+    /// The kept reader moves on by a call, where the call was on it.
+    pub(super) fn keep(&mut self, which: usize, reader: &Reader, call: impl FnOnce(&mut Reader) -> bool) {
+        let mut moved = reader.clone();
+        let kept = &mut self.kept(reader.layout)[which];
+        if *kept == *reader && call(&mut moved) {
+            *kept = moved;
+        }
     }
 }

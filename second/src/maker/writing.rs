@@ -1,10 +1,10 @@
 //! Calls of the writer: frames and room for them, good and bad.
 
-use super::numbers::limits;
+use super::loads::resized;
 use super::Maker;
 use crate::events::RECORD;
 use crate::script::{Call, LARGEST_BUFFER};
-use crate::table::{Setup, SLOTS, SLOT_NUMBERS};
+use crate::table::{Layout, Setup, MAJOR, MINOR, NUMBERS, PRESSURE, SLOTS, SLOT_NUMBERS, X, Y};
 use crate::writer::{Writer, LARGEST_FRAME};
 
 /// What [`Maker::press_least`] tries, by kind and pressure.
@@ -44,91 +44,121 @@ impl Maker {
     /// A frame with good numbers for this writer, whose state may be broken.
     pub(crate) fn frame(&mut self, writer: &Writer) -> Vec<i32> {
         let n = writer.setup.slots.min(SLOTS as u64) as usize;
-        let setup = writer.setup;
         let mut frame = Vec::with_capacity(SLOT_NUMBERS * n);
         for slot in &writer.table[..n] {
-            let kind = i32::from(slot.id.is_live());
-            frame.extend([kind, slot.x as i32, slot.y as i32, slot.pressure as i32]);
+            frame.push(i32::from(slot.id.is_live()));
+            frame.extend(slot.numbers.map(|number| number as i32));
         }
         if n == 0 {
             return frame;
         }
-        let s = SLOT_NUMBERS * self.random.below(n as u64) as usize;
-        match self.random.below(13) {
+        match self.random.below(17) {
             0 => self.tag("frame: equal"),
-            1..=3 => {
+            1..=7 => self.change_one(&writer.setup, &mut frame),
+            8 | 9 => self.change_several(&writer.setup, &mut frame),
+            10 | 11 => self.change_sizes(&writer.setup, &mut frame),
+            _ => self.change_all(&writer.setup, &mut frame),
+        }
+        self.press(&writer.setup, &mut frame);
+        if self.random.once_in(2) {
+            self.put_junk(&mut frame);
+        }
+        frame
+    }
+
+    /// Where the numbers of one of a frame's slots begin.
+    fn any_row(&mut self, frame: &[i32]) -> usize {
+        SLOT_NUMBERS * self.random.below((frame.len() / SLOT_NUMBERS) as u64) as usize
+    }
+
+    fn change_one(&mut self, setup: &Setup, frame: &mut [i32]) {
+        let s = self.any_row(frame);
+        match self.random.below(7) {
+            0..=3 => {
                 self.tag("frame: one number changed");
                 frame[s] = 1;
-                self.change_number(&setup, &mut frame[s..s + SLOT_NUMBERS]);
+                self.change_number(setup, &mut frame[s + 1..]);
             }
             4 | 5 => {
                 self.tag("frame: one slot's kind changed");
                 frame[s] = self.random.pick(&[0, 1, 2, 2]);
             }
-            6 | 7 => {
-                self.tag("frame: several slots changed");
-                for _ in 0..self.random.from_to(2, 6) {
-                    let s = SLOT_NUMBERS * self.random.below(n as u64) as usize;
-                    if self.random.once_in(2) {
-                        frame[s] = self.random.pick(&[0, 1, 1, 2]);
-                    } else {
-                        self.change_number(&setup, &mut frame[s..s + SLOT_NUMBERS]);
-                    }
-                }
-            }
-            8 | 9 => {
-                self.tag("frame: every number changed");
-                for wanted in frame.chunks_exact_mut(SLOT_NUMBERS) {
-                    wanted[0] = 2;
-                    for (number, largest) in wanted[1..].iter_mut().zip(limits(&setup)) {
-                        *number = if *number < largest.min(i32::MAX as u32) as i32 { *number + 1 } else { 0 };
-                    }
-                }
-            }
-            10 => {
-                self.tag("frame: all begin");
-                for wanted in frame.chunks_exact_mut(SLOT_NUMBERS) {
-                    wanted[0] = 2;
-                }
-            }
-            11 => {
-                self.tag("frame: all lift");
-                for wanted in frame.chunks_exact_mut(SLOT_NUMBERS) {
-                    wanted[0] = 0;
-                }
-            }
             _ => {
-                self.tag("frame: any good one");
-                for wanted in frame.chunks_exact_mut(SLOT_NUMBERS) {
-                    wanted[0] = self.random.pick(&[0, 1, 1, 2]);
-                    wanted[1] = self.number(setup.largest_x) as i32;
-                    wanted[2] = self.number(setup.largest_y) as i32;
-                    wanted[3] = self.number(setup.largest_pressure) as i32;
+                self.tag("frame: landings with the sizes that were there");
+                frame[s] = 2;
+                for i in [X, Y, PRESSURE] {
+                    frame[s + 1 + i] = self.other_number(frame[s + 1 + i] as u32, setup.largest[i]) as i32;
                 }
             }
         }
-        self.press(&setup, &mut frame);
-        if self.random.once_in(2) {
-            for wanted in frame.chunks_exact_mut(SLOT_NUMBERS) {
-                if wanted[0] == 0 {
-                    self.tag("frame: junk in slots of kind 0");
-                    for number in &mut wanted[1..] {
-                        *number = self.junk();
-                    }
-                }
+    }
+
+    fn change_several(&mut self, setup: &Setup, frame: &mut [i32]) {
+        self.tag("frame: several slots changed");
+        for _ in 0..self.random.from_to(2, 6) {
+            let s = self.any_row(frame);
+            if self.random.once_in(2) {
+                frame[s] = self.random.pick(&[0, 1, 1, 2]);
+            } else {
+                self.change_number(setup, &mut frame[s + 1..]);
             }
         }
-        frame
+    }
+
+    /// Gloves: of contacts that go on, one size changes or both.
+    fn change_sizes(&mut self, setup: &Setup, frame: &mut [i32]) {
+        self.tag("frame: touch sizes alone changed");
+        for _ in 0..self.random.pick(&[1, 1, 1, 2, 4]) {
+            let s = self.any_row(frame);
+            for i in self.random.pick(&[&[MAJOR][..], &[MINOR], &[MAJOR, MINOR]]) {
+                frame[s + 1 + i] = self.other_number(frame[s + 1 + i] as u32, setup.largest[*i]) as i32;
+            }
+        }
+    }
+
+    fn change_all(&mut self, setup: &Setup, frame: &mut [i32]) {
+        let which = self.random.below(5);
+        self.tag(match which {
+            0 | 1 => "frame: every number changed",
+            2 => "frame: all begin",
+            3 => "frame: all lift",
+            _ => "frame: any good one",
+        });
+        for wanted in frame.chunks_exact_mut(SLOT_NUMBERS) {
+            wanted[0] = match which {
+                0..=2 => 2,
+                3 => 0,
+                _ => self.random.pick(&[0, 1, 1, 2]),
+            };
+            for (number, largest) in wanted[1..].iter_mut().zip(setup.largest) {
+                *number = match which {
+                    0 | 1 if *number < largest.min(i32::MAX as u32) as i32 => *number + 1,
+                    0 | 1 => 0,
+                    4 => self.number(largest) as i32,
+                    _ => *number,
+                };
+            }
+        }
+    }
+
+    /// What a slot without a contact has in the frame does not matter.
+    fn put_junk(&mut self, frame: &mut [i32]) {
+        for wanted in frame.chunks_exact_mut(SLOT_NUMBERS).filter(|wanted| wanted[0] == 0) {
+            self.tag("frame: junk in slots of kind 0");
+            for number in &mut wanted[1..] {
+                *number = self.junk();
+            }
+        }
     }
 
     /// A contact that would press with 0 presses, or lifts.
     fn press(&mut self, setup: &Setup, frame: &mut [i32]) {
         for wanted in frame.chunks_exact_mut(SLOT_NUMBERS) {
-            if wanted[0] != 0 && wanted[3] == 0 {
+            if wanted[0] != 0 && wanted[1 + PRESSURE] == 0 {
                 if self.random.once_in(4) {
                     wanted[0] = 0;
                 } else {
-                    wanted[3] = self.pressing(setup.largest_pressure) as i32;
+                    wanted[1 + PRESSURE] = self.pressing(setup.largest[PRESSURE]) as i32;
                 }
             }
         }
@@ -141,41 +171,53 @@ impl Maker {
             let s = SLOT_NUMBERS * self.random.below(rows as u64) as usize;
             let (kind, pressure) = (self.random.below(3) as usize, self.random.below(2) as usize);
             self.tag(LEAST[kind][pressure]);
-            (frame[s], frame[s + 3]) = (kind as i32, pressure as i32);
+            (frame[s], frame[s + 1 + PRESSURE]) = (kind as i32, pressure as i32);
         }
     }
 
-    fn change_number(&mut self, setup: &Setup, wanted: &mut [i32]) {
-        let which = self.random.from_to(1, 3) as usize;
-        let largest = limits(setup)[which - 1];
-        wanted[which] = self.other_number(wanted[which] as u32, largest) as i32;
+    fn change_number(&mut self, setup: &Setup, numbers: &mut [i32]) {
+        let i = self.any_number();
+        numbers[i] = self.other_number(numbers[i] as u32, setup.largest[i]) as i32;
     }
 
     fn break_frame(&mut self, writer: &Writer, frame: &mut Vec<i32>) {
+        if self.random.once_in(10) {
+            self.tag("frame: four numbers a slot");
+            *frame = resized(frame, SLOT_NUMBERS, Layout::Crane.slot_numbers());
+            return;
+        }
         if frame.is_empty() || self.random.once_in(3) {
             self.tag("frame: wrong length");
-            let length = frame.len();
-            let wrong = self.random.pick(&[0, 1, 3, 4, length + 1, length + 3, length + 4, 64, 68]);
-            let wrong = if wrong == length { length + 4 } else { wrong };
+            let wrong = self.wrong_frame(frame.len());
             frame.resize(wrong, 0);
             if self.random.once_in(2) {
                 return;
             }
         }
-        let rows = frame.len() / SLOT_NUMBERS;
-        if rows == 0 {
+        if frame.len() < SLOT_NUMBERS {
             return;
         }
-        let s = SLOT_NUMBERS * self.random.below(rows as u64) as usize;
+        let s = self.any_row(frame);
         if self.random.once_in(3) {
             self.tag("frame: bad kind");
             frame[s] = self.random.pick(&[-1, 3, 4, 256, 257, 65_537, i32::MIN, i32::MIN + 1, i32::MAX]);
         } else {
             self.tag("frame: bad number");
-            let which = self.random.from_to(1, 3) as usize;
-            let largest = limits(&writer.setup)[which - 1];
+            let i = self.random.below(NUMBERS as u64) as usize;
             frame[s] = self.random.pick(&[1, 2]);
-            frame[s + which] = self.bad_number(largest);
+            frame[s + 1 + i] = self.bad_number(writer.setup.largest[i]);
+        }
+    }
+
+    /// Another count of numbers than this: fewer, more, and those of the most slots.
+    fn wrong_frame(&mut self, length: usize) -> usize {
+        let (row, most) = (SLOT_NUMBERS, SLOTS * SLOT_NUMBERS);
+        let wrong =
+            self.random.pick(&[0, 1, row - 1, row, length + 1, length + row - 1, length + row, most, most + row]);
+        if wrong == length {
+            length + row
+        } else {
+            wrong
         }
     }
 

@@ -19,30 +19,31 @@ fn decode_in(bytes: &[u8], size: usize, frames: bool) -> String {
 
 #[test]
 fn p1_and_its_text() {
-    let text = "SETUP 2 4000 4000 255\n# a finger\n\nID 0\nX 100\nY 200\nPRESSURE 30\nREPORT\n";
-    let bytes = encoded(text);
-    assert_eq!(bytes.len(), 56);
-    assert_eq!(bytes[16..24], [3, 0, 0x39, 0, 0, 0, 0, 0]);
-    assert_eq!(decoded(&bytes, false), "SETUP 2 4000 4000 255\nID 0\nX 100\nY 200\nPRESSURE 30\nREPORT\n");
+    let lines = "ID 0\nX 100\nY 200\nPRESSURE 30\nMAJOR 9\nMINOR 7\nREPORT\n";
+    let bytes = encoded(&format!("SETUP 2 4000 4000 255 255 255\n# a finger\n\n{lines}"));
+    assert_eq!(bytes.len(), 24 + 56);
+    assert_eq!(bytes[24..32], [3, 0, 0x39, 0, 0, 0, 0, 0]);
+    assert_eq!(bytes[56..72], [3, 0, 0x30, 0, 9, 0, 0, 0, 3, 0, 0x31, 0, 7, 0, 0, 0]);
+    assert_eq!(decoded(&bytes, false), format!("SETUP 2 4000 4000 255 255 255\n{lines}"));
 }
 
 #[test]
 fn frames_and_cut_ones() {
-    let text = "SETUP 1 9 9 9\nFRAME 1 2 3 4\nFRAME 0 -1 0 0\nBYTES 01 00\n";
+    let text = "SETUP 1 9 9 9 9 9\nFRAME 1 2 3 4 5 6\nFRAME 0 -1 0 0 0 0\nBYTES 01 00\n";
     let bytes = encoded(text);
-    assert_eq!(bytes.len(), 16 + 32 + 2);
+    assert_eq!(bytes.len(), 24 + 48 + 2);
     assert_eq!(decoded(&bytes, true), text);
 }
 
 /// Noise, every other time with a small n and records that have names.
 fn any_bytes(random: &mut Random, length: usize) -> Vec<u8> {
     let mut bytes: Vec<u8> = (0..length).map(|_| random.word() as u8).collect();
-    if length > 16 && random.once_in(2) {
+    if length > HEADER && random.once_in(2) {
         bytes[..4].copy_from_slice(&(random.from_to(0, 4) as u32).to_le_bytes());
-        for record in bytes[16..].chunks_exact_mut(8) {
+        for record in bytes[HEADER..].chunks_exact_mut(8) {
             record[0] = random.pick(&[0, 3]);
             record[1] = 0;
-            record[2] = random.pick(&[0, 3, 0x2f, 0x35, 0x36, 0x39, 0x3a, 0x33]);
+            record[2] = random.pick(&[0, 3, 0x2f, 0x30, 0x31, 0x35, 0x36, 0x39, 0x3a, 0x33]);
             record[3] = 0;
         }
     }
@@ -84,8 +85,8 @@ fn more_than_a_buffer_comes_back() {
 /// Blanks of any kind, a last line without its end, and lines that give no byte before SETUP.
 #[test]
 fn text_as_people_write_it() {
-    let text = "BYTES\n\t SETUP\u{a0}1  9 9 9 \r\n  # a comment\r\nX\t+5\r\nEVENT 0x3 53 -1";
-    let bytes = encoded("SETUP 1 9 9 9\nX 5\nX -1\n");
+    let text = "BYTES\n\t SETUP\u{a0}1  9 9 9 9 9 \r\n  # a comment\r\nX\t+5\r\nEVENT 0x3 53 -1";
+    let bytes = encoded("SETUP 1 9 9 9 9 9\nX 5\nX -1\n");
     for size in [1, 2, 3, 1000] {
         assert_eq!(encode_in(text.as_bytes(), size, false), (Status::Accepted, bytes.clone(), String::new()));
     }
@@ -101,13 +102,15 @@ fn errors_name_their_line() {
         ("REPORT 1\n", 1),
         ("EVENT 65536 0 0\n", 1),
         ("EVENT 3 0xfffff 0\n", 1),
-        ("X 1\nSETUP 1 2 3 4\n", 2),
-        ("BYTES 01\nSETUP 1 2 3 4\n", 2),
+        ("X 1\nSETUP 1 2 3 4 9 9\n", 2),
+        ("BYTES 01\nSETUP 1 2 3 4 9 9\n", 2),
         ("SETUP 1 2 3\n", 1),
-        ("SETUP 1 2 3 4\nFRAME 1 2 3\n", 2),
-        ("SETUP 2 9 9 9\nFRAME 1 2 3 4\n", 2),
-        ("X 1\nFRAME 1 2 3 4\n", 2),
-        ("FRAME 1 2 3 4\nX 1\n", 2),
+        ("SETUP 1 2 3 4\n", 1),
+        ("SETUP 1 2 3 4 5 6 7\n", 1),
+        ("SETUP 1 2 3 4 9 9\nFRAME 1 2 3\n", 2),
+        ("SETUP 2 9 9 9 9 9\nFRAME 1 2 3 4 0 0\n", 2),
+        ("X 1\nFRAME 1 2 3 4 0 0\n", 2),
+        ("FRAME 1 2 3 4 0 0\nX 1\n", 2),
         ("BYTES 1 2\n", 1),
         ("BYTES +1\n", 1),
         ("x 1\n", 1),
@@ -148,11 +151,11 @@ fn a_failed_read_is_said_and_cuts_no_number() {
     let (status, out, words) = encode_in(b"X 1\nX 30", 3, true);
     assert_eq!((status, out, words.as_str()), (Status::Failed, encoded("X 1\n"), lost));
 
-    let bytes = [encoded("SETUP 1 9 9 9\nX 1\n"), vec![3, 0]].concat();
+    let bytes = [encoded("SETUP 1 9 9 9 9 9\nX 1\n"), vec![3, 0]].concat();
     let (mut out, mut err) = (Vec::new(), Vec::new());
     let status = decode(Pieces { bytes: &bytes, size: 7, fails: true }, &mut out, &mut err, false);
     assert_eq!((status, err), (Status::Failed, lost.as_bytes().to_vec()));
-    assert_eq!(out, b"SETUP 1 9 9 9\nX 1\nBYTES 03 00\n");
+    assert_eq!(out, b"SETUP 1 9 9 9 9 9\nX 1\nBYTES 03 00\n");
 }
 
 #[test]

@@ -5,15 +5,20 @@ use second::events::{events, Event, RECORD};
 use second::reader::{Mode, Reader};
 use second::records::event_text;
 use second::refusal::Refusal;
-use second::table::{Setup, Slot, SlotNumber, Table, TrackingId, EMPTY};
+use second::table::{Layout, Setup, Slot, SlotNumber, Table, TrackingId, EMPTY};
 use second::writer::{Writer, Written, LARGEST_FRAME};
 
 pub fn panel(slots: u64) -> Setup {
-    Setup { slots, largest_x: 4000, largest_y: 4000, largest_pressure: 255 }
+    Setup { slots, largest: [4000, 4000, 255, 255, 255] }
 }
 
+/// A slot with touch sizes 0.
 pub fn slot(id: i32, x: u32, y: u32, pressure: u32) -> Slot {
-    Slot { id: TrackingId(id), x, y, pressure }
+    sized(id, x, y, pressure, 0, 0)
+}
+
+pub fn sized(id: i32, x: u32, y: u32, pressure: u32, major: u32, minor: u32) -> Slot {
+    Slot { id: TrackingId(id), numbers: [x, y, pressure, major, minor] }
 }
 
 pub fn table(slots: &[Slot]) -> Table {
@@ -27,8 +32,18 @@ pub fn writer(current: u64, counter: u32, slots: &[Slot]) -> Writer {
 }
 
 pub fn following(current: u64, slots: &[Slot]) -> Reader {
+    reader(Layout::Panel, current, slots)
+}
+
+/// The cranes' reader, of slots with touch sizes 0.
+pub fn crane(current: u64, slots: &[Slot]) -> Reader {
+    reader(Layout::Crane, current, slots)
+}
+
+fn reader(layout: Layout, current: u64, slots: &[Slot]) -> Reader {
     Reader {
-        setup: panel(slots.len() as u64),
+        layout,
+        setup: panel(slots.len() as u64).known_to(layout),
         current: SlotNumber(current),
         mode: Mode::Following,
         shown: table(slots),

@@ -1,11 +1,12 @@
 //! Mistakes in what a frame is taken for, in the room for it, and in where its bytes go.
 
 use second::events::RECORD;
-use second::script::{Call, HEAD_NUMBERS, WRITER_NUMBERS};
-use second::table::{Setup, SLOT_NUMBERS};
+use second::script::{Call, WRITER_HEAD, WRITER_NUMBERS};
+use second::table::{Setup, LIMITS, NUMBERS, PRESSURE, SLOTS, SLOT_NUMBERS};
 
 use crate::records::judged_by;
 use crate::slow_writer::{writes, RIGHT};
+use crate::states::NAMES;
 use crate::wrong::{judges_early, refuses, says, takes, Wrong};
 
 /// It takes the rows of a frame for others.
@@ -17,8 +18,8 @@ fn frames(name: impl Into<String>, change: impl Fn(&Setup, &mut [i32]) + 'static
     })
 }
 
-fn largest(setup: &Setup) -> [i32; 3] {
-    [setup.largest_x as i32, setup.largest_y as i32, setup.largest_pressure as i32]
+fn largest(setup: &Setup, i: usize) -> i32 {
+    setup.largest[i] as i32
 }
 
 fn kinds_and_lengths() -> Vec<Wrong> {
@@ -30,12 +31,12 @@ fn kinds_and_lengths() -> Vec<Wrong> {
         frames("a kind has no sign", |_, row| row[0] &= i32::MAX),
         takes("a frame may be longer", |call| {
             if let Call::Write { writer, frame, .. } = call {
-                frame.truncate(SLOT_NUMBERS * writer.setup.slots.min(16) as usize);
+                frame.truncate(SLOT_NUMBERS * writer.setup.slots.min(SLOTS as u64) as usize);
             }
         }),
         takes("slots that a frame has not lift", |call| match call {
             Call::Write { writer, frame, .. } if frame.len() % SLOT_NUMBERS == 0 => {
-                frame.resize(frame.len().max(SLOT_NUMBERS * writer.setup.slots.min(16) as usize), 0);
+                frame.resize(frame.len().max(SLOT_NUMBERS * writer.setup.slots.min(SLOTS as u64) as usize), 0);
             }
             _ => {}
         }),
@@ -45,53 +46,75 @@ fn kinds_and_lengths() -> Vec<Wrong> {
 fn numbers() -> Vec<Wrong> {
     let mut all = vec![
         refuses("numbers of kind 0 are judged", 4, |call| match call {
-            Call::Write { writer, frame, .. } => frame
-                .chunks_exact(SLOT_NUMBERS)
-                .any(|row| row[0] == 0 && is_bad_row(&writer.setup, &[1, row[1], row[2], row[3]])),
+            Call::Write { writer, frame, .. } => {
+                frame.chunks_exact(SLOT_NUMBERS).any(|row| row[0] == 0 && has_bad_number(&writer.setup, row))
+            }
             _ => false,
         }),
         frames("numbers of kind 2 are not judged", |_, row| {
             if row[0] == 2 {
-                row[1..].fill(0);
+                row[1..].fill(1);
             }
         }),
+        takes("a frame may have four numbers a slot", |call| match call {
+            Call::Write { writer, frame, .. } if frame.len() as u64 == writer.setup.slots.saturating_mul(4) => {
+                *frame = frame.chunks_exact(4).flat_map(|row| [row, &[0, 0]].concat()).collect();
+            }
+            _ => {}
+        }),
     ];
-    for (i, name) in ["x", "y", "pressure"].into_iter().enumerate() {
-        let mut number = |what: &str, other: fn(i32, i32, i32) -> i32| {
-            all.push(frames(format!("a frame's {name} {what}"), move |setup, row| {
+    for (i, name) in NAMES.into_iter().enumerate() {
+        all.extend(numbers_of(i, name));
+        for j in (0..NUMBERS).filter(|j| *j != i) {
+            let name = format!("a frame's {name} is judged by the largest {}", NAMES[j]);
+            all.push(frames(name, move |setup, row| {
                 if row[0] != 0 {
-                    let others = [largest(setup)[1], largest(setup)[0], 255];
-                    row[i + 1] = other(row[i + 1], largest(setup)[i], others[i]);
+                    row[i + 1] = judged_by(row[i + 1], largest(setup, i), largest(setup, j));
                 }
             }));
-        };
-        number("may be one too large", |number, largest, _| number - i32::from(number == largest.wrapping_add(1)));
-        number("may be -1", |number, _, _| if number == -1 { 1 } else { number });
-        number("may not be the largest", |number, largest, _| number.saturating_add(i32::from(number == largest)));
-        if name != "pressure" {
-            number("may not be 0", |number, _, _| number - i32::from(number == 0));
         }
-        number("is cut to 16 bits", |number, _, _| number & 0xffff);
-        number("has no sign", |number, _, _| number & i32::MAX);
-        number("is judged by another largest value", judged_by);
     }
     all
 }
 
+/// Mistakes in the range of one of a slot's numbers.
+fn numbers_of(i: usize, name: &str) -> Vec<Wrong> {
+    let mut all = Vec::new();
+    let mut number = |what: &str, other: fn(i32, i32) -> i32| {
+        all.push(frames(format!("a frame's {name} {what}"), move |setup, row| {
+            if row[0] != 0 {
+                row[i + 1] = other(row[i + 1], largest(setup, i));
+            }
+        }));
+    };
+    number("may be one too large", |number, largest| number - i32::from(number == largest.wrapping_add(1)));
+    number("may be -1", |number, _| if number == -1 { 1 } else { number });
+    number("may not be the largest", |number, largest| number.saturating_add(i32::from(number == largest)));
+    if i != PRESSURE {
+        number("may not be 0", |number, _| number - i32::from(number == 0));
+    }
+    number("is cut to 16 bits", |number, _| number & 0xffff);
+    number("has no sign", |number, _| number & i32::MAX);
+    all
+}
+
+fn has_bad_number(setup: &Setup, row: &[i32]) -> bool {
+    row[1..].iter().enumerate().any(|(i, number)| *number as u32 > setup.largest[i])
+}
+
 fn is_bad_row(setup: &Setup, row: &[i32]) -> bool {
-    let is_bad = |(number, largest): (&i32, i32)| *number as u32 > largest as u32;
-    !(0..=2).contains(&row[0]) || row[0] != 0 && row[1..].iter().zip(largest(setup)).any(is_bad)
+    !(0..=2).contains(&row[0]) || row[0] != 0 && has_bad_number(setup, row)
 }
 
 /// A number that differs from the old one in a bit alone passes for the same.
 fn changes() -> Vec<Wrong> {
     let mut all = Vec::new();
-    for (i, name, bits) in [(0, "x", 15), (1, "y", 15), (2, "pressure", 8)] {
-        for bit in 0..bits {
+    for (i, name) in NAMES.into_iter().enumerate() {
+        for bit in 0..LIMITS[i].count_ones() {
             all.push(takes(format!("a change of {name} in bit {bit} alone is not seen"), move |call| {
                 if let Call::Write { writer, frame, .. } = call {
                     for (row, slot) in frame.chunks_exact_mut(SLOT_NUMBERS).zip(&writer.table) {
-                        let old = [slot.x, slot.y, slot.pressure][i] as i32;
+                        let old = slot.numbers[i] as i32;
                         row[i + 1] = if row[i + 1] ^ old == 1 << bit { old } else { row[i + 1] };
                     }
                 }
@@ -104,7 +127,9 @@ fn changes() -> Vec<Wrong> {
 fn order_of_refusals() -> Vec<Wrong> {
     vec![
         judges_early("3 is judged before 2", 3, |call| match call {
-            Call::Write { writer, frame, .. } => frame.len() as u64 != writer.setup.slots.wrapping_mul(4),
+            Call::Write { writer, frame, .. } => {
+                frame.len() as u64 != writer.setup.slots.wrapping_mul(SLOT_NUMBERS as u64)
+            }
             _ => false,
         }),
         judges_early("4 is judged before 2 and 3", 4, |call| match call {
@@ -184,7 +209,7 @@ fn needs() -> Vec<Wrong> {
         }),
         says("a refusal moves the counter", |call, words| {
             if matches!(call, Call::Write { .. }) && words[0] == "5" {
-                words[HEAD_NUMBERS] = (number(&words[HEAD_NUMBERS]) + 1).to_string();
+                words[WRITER_HEAD] = (number(&words[WRITER_HEAD]) + 1).to_string();
             }
         }),
         says("a refusal tells the events", |call, words| {

@@ -1,10 +1,29 @@
 //! Mistakes in how a line is read: its limits, its word, its spaces and its numbers.
 
-use second::script::{answer_line, Call, BAD_LINE, LARGEST_BUFFER, LONGEST_LINE, MOST_NUMBERS, POD_NUMBERS};
+use second::script::{answer_line, head_numbers, layout_of, Call};
+use second::script::{BAD_LINE, CRANE, LARGEST_BUFFER, LONGEST_LINE, MOST_NUMBERS, POD_NUMBERS};
+use second::table::Layout;
 
 use crate::wrong::{answers, Wrong};
 
-const NAMES: [&str; 10] = ["fresh", "new", "run", "one", "load", "ask", "good", "write", "start", "pod"];
+const NAMES: [&str; 16] = [
+    "fresh",
+    "new",
+    "run",
+    "one",
+    "load",
+    "ask",
+    "good",
+    "write",
+    "start",
+    "pod",
+    "crane_fresh",
+    "crane_run",
+    "crane_one",
+    "crane_load",
+    "crane_ask",
+    "crane_good",
+];
 
 /// It reads a line that is no call as another line.
 fn forgives(name: &str, other: impl Fn(&str) -> Option<String> + 'static) -> Wrong {
@@ -48,6 +67,16 @@ fn with_waits(line: &str, is_it: fn(&str) -> bool, other: &'static str) -> Optio
         return None;
     }
     *all.get_mut(1).filter(|word| is_it(word))? = other;
+    Some(all.join(" "))
+}
+
+/// Such a reader's line with mode 2 in place of 3.
+fn with_mode(line: &str, layout: Layout) -> Option<String> {
+    let mut all: Vec<&str> = words(line).collect();
+    if layout_of(all.first()?).0 != layout {
+        return None;
+    }
+    *all.get_mut(head_numbers(layout)).filter(|word| **word == "3")? = "2";
     Some(all.join(" "))
 }
 
@@ -97,6 +126,17 @@ fn spelling() -> Vec<Wrong> {
         forgives("the first letter is enough", |line| with_word(line, |name, word| name[..1] == word[..1])),
         forgives("a word may be cut", |line| with_word(line, |name, word| name.starts_with(word))),
         forgives("a word may be longer", |line| with_word(line, |name, word| word.starts_with(name))),
+        forgives("a crane has a writer and a pod", |line| line.trim().strip_prefix(CRANE).map(str::to_string)),
+        forgives("what says that it is a crane's may be cut", |line| {
+            with_word(line, |name, word| {
+                name.strip_prefix(CRANE).is_some_and(|name| word.strip_prefix("crane") == Some(name))
+            })
+        }),
+        forgives("any word in front says that it is a crane's", |line| {
+            with_word(line, |name, word| {
+                name.strip_prefix(CRANE).is_some_and(|name| word.split_once('_').is_some_and(|(_, word)| word == name))
+            })
+        }),
         forgives("a capital is a small letter", |line| with_word(line, |name, word| name == word.to_lowercase())),
         minds("two spaces are one too many", |line, _| line.trim().contains("  ")),
         minds("no space may stand in front", |line, _| line.starts_with(' ')),
@@ -118,11 +158,8 @@ fn numerals() -> Vec<Wrong> {
         forgives("1x is 1", |line| with_numbers(line, |number| number.replace('x', ""))),
         forgives("a sign alone is 0", |line| with_numbers(line, |number| number.replace('-', "0"))),
         forgives("a second sign is passed over", |line| with_numbers(line, |number| number.replace("--", "-"))),
-        forgives("mode 3 is stale", |line| {
-            let mut all: Vec<&str> = words(line).collect();
-            *all.get_mut(6).filter(|word| **word == "3")? = "2";
-            Some(all.join(" "))
-        }),
+        forgives("mode 3 of the panel's reader is stale", |line| with_mode(line, Layout::Panel)),
+        forgives("mode 3 of a crane's reader is stale", |line| with_mode(line, Layout::Crane)),
         forgives("a pod's waits of 2 is 1", |line| with_waits(line, |waits| waits == "2", "1")),
         forgives("a pod's waits of 2 is 0", |line| with_waits(line, |waits| waits == "2", "0")),
         forgives("a pod's waits may be any number but 0", |line| with_waits(line, |waits| waits != "0", "1")),

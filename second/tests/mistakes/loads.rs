@@ -2,10 +2,10 @@
 
 use second::reader::{Mode, Reader};
 use second::script::Call;
-use second::table::{Setup, SlotNumber, EMPTY, SLOT_NUMBERS};
+use second::table::{Layout, Setup, SlotNumber, EMPTY};
 
 use crate::records::judged_by;
-use crate::states::{ids_meet, too_few_bits};
+use crate::states::{ids_meet, too_few_bits, NAMES};
 use crate::wrong::{answers, judges_early, reader_text, refuses, says, takes, Wrong};
 
 /// It takes an image or a current slot for another.
@@ -20,7 +20,7 @@ fn image(name: impl Into<String>, change: impl Fn(&Reader, &mut SlotNumber, &mut
 /// It takes the rows of an image for others.
 fn rows(name: impl Into<String>, change: impl Fn(&Setup, &mut [i32]) + 'static) -> Wrong {
     image(name, move |reader, _, image| {
-        image.chunks_exact_mut(SLOT_NUMBERS).for_each(|row| change(&reader.setup, row));
+        image.chunks_exact_mut(reader.layout.slot_numbers()).for_each(|row| change(&reader.setup, row));
     })
 }
 
@@ -37,15 +37,15 @@ fn ends(name: &str, change: impl Fn(&Reader, &mut Reader) + 'static) -> Wrong {
     })
 }
 
-fn image_ids(image: &[i32]) -> impl Iterator<Item = i32> + '_ {
-    image.chunks_exact(SLOT_NUMBERS).map(|row| row[0])
+fn image_ids(layout: Layout, image: &[i32]) -> impl Iterator<Item = i32> + '_ {
+    image.chunks_exact(layout.slot_numbers()).map(|row| row[0])
 }
 
 fn ids() -> Vec<Wrong> {
     let mut all = Vec::new();
     for (how, bits) in too_few_bits() {
         all.push(refuses(format!("ids of an image are compared {how}"), 8, move |call| match call {
-            Call::Load { image, .. } => ids_meet(image_ids(image), bits),
+            Call::Load { reader, image, .. } => ids_meet(image_ids(reader.layout, image), bits),
             _ => false,
         }));
     }
@@ -56,12 +56,12 @@ fn ids() -> Vec<Wrong> {
         (" in neighbours", |apart, _| apart != 1),
         (" but in neighbours", |apart, _| apart == 1),
     ] {
-        all.push(image(format!("ids of an image may repeat{what}"), move |_, _, image| {
-            let ids: Vec<i32> = image_ids(image).collect();
+        all.push(image(format!("ids of an image may repeat{what}"), move |reader, _, image| {
+            let ids: Vec<i32> = image_ids(reader.layout, image).collect();
             for (s, id) in ids.iter().enumerate() {
                 let unseen = |t: &usize| ids[*t] == *id && *id != -1 && !is_seen(s - t, *id);
                 if (0..s).any(|t| unseen(&t)) {
-                    image[SLOT_NUMBERS * s] = 33_000 + s as i32;
+                    image[reader.layout.slot_numbers() * s] = 33_000 + s as i32;
                 }
             }
         }));
@@ -69,20 +69,19 @@ fn ids() -> Vec<Wrong> {
     all
 }
 
-fn numbers() -> Vec<Wrong> {
-    let mut all = vec![
+fn image_ids_judged() -> Vec<Wrong> {
+    vec![
         rows("an image's id may be 65,536", |_, row| row[0] -= i32::from(row[0] == 65_536)),
         rows("an image's id may be -2", |_, row| row[0] += i32::from(row[0] == -2)),
         rows("an image's id is cut to 16 bits", |_, row| row[0] = if row[0] == -1 { -1 } else { row[0] & 0xffff }),
         rows("a bad id of an image is -1", |_, row| row[0] = if row[0] < -1 { -1 } else { row[0] }),
         refuses("an image's id may not be 65,535", 8, |call| match call {
-            Call::Load { image, .. } => image_ids(image).any(|id| id == 65_535),
+            Call::Load { reader, image, .. } => image_ids(reader.layout, image).any(|id| id == 65_535),
             _ => false,
         }),
         rows("numbers of an unused slot are not judged", |setup, row| {
             let is_unused = row[0] == -1;
-            let largest = [setup.largest_x, setup.largest_y, setup.largest_pressure];
-            for (number, largest) in row[1..].iter_mut().zip(largest) {
+            for (number, largest) in row[1..].iter_mut().zip(setup.largest) {
                 *number = if is_unused && *number as u32 > largest { 0 } else { *number };
             }
         }),
@@ -91,12 +90,15 @@ fn numbers() -> Vec<Wrong> {
                 *slot = EMPTY[0];
             }
         }),
-    ];
-    for (i, name) in ["x", "y", "pressure"].into_iter().enumerate() {
-        let largest = move |setup: &Setup| [setup.largest_x, setup.largest_y, setup.largest_pressure][i] as i32;
+    ]
+}
+
+fn numbers(layout: Layout) -> Vec<Wrong> {
+    let mut all = Vec::new();
+    for (i, name) in NAMES.into_iter().enumerate().take(layout.numbers()) {
         let mut number = |what: &str, other: fn(i32, i32) -> i32| {
             all.push(rows(format!("an image's {name} {what}"), move |setup, row| {
-                row[i + 1] = other(row[i + 1], largest(setup));
+                row[i + 1] = other(row[i + 1], setup.largest[i] as i32);
             }));
         };
         number("may be one too large", |number, largest| number - i32::from(number == largest.saturating_add(1)));
@@ -104,32 +106,45 @@ fn numbers() -> Vec<Wrong> {
         number("may not be the largest", |number, largest| number.saturating_add(i32::from(number == largest)));
         number("is cut to 16 bits", |number, _| number & 0xffff);
         number("has no sign", |number, _| number & i32::MAX);
-        all.push(rows(format!("an image's {name} is judged by another largest value"), move |setup, row| {
-            let other = [setup.largest_y, setup.largest_x, 255][i] as i32;
-            row[i + 1] = judged_by(row[i + 1], largest(setup), other);
-        }));
+        for j in (0..layout.numbers()).filter(|j| *j != i) {
+            let name = format!("an image's {name} is judged by the largest {}", NAMES[j]);
+            all.push(rows(name, move |setup, row| {
+                row[i + 1] = judged_by(row[i + 1], setup.largest[i] as i32, setup.largest[j] as i32);
+            }));
+        }
     }
     all
 }
 
 /// Whether a reader that is stale and in order would refuse it.
 fn is_bad_image(reader: &Reader, current: SlotNumber, image: &[i32]) -> bool {
-    Reader::fresh(reader.setup).is_ok_and(|fresh| Reader { mode: Mode::Stale, ..fresh }.load(image, current).is_err())
+    Reader::fresh(reader.layout, reader.setup)
+        .is_ok_and(|fresh| Reader { mode: Mode::Stale, ..fresh }.load(image, current).is_err())
+}
+
+/// How many numbers an image of this reader has.
+fn length(reader: &Reader) -> usize {
+    reader.setup.slots.saturating_mul(reader.layout.slot_numbers() as u64).min(100_000) as usize
 }
 
 fn lengths_and_modes() -> Vec<Wrong> {
-    let length = |reader: &Reader| reader.setup.slots.saturating_mul(SLOT_NUMBERS as u64).min(100_000) as usize;
     let mut all = vec![
         image("an image may be longer", move |reader, _, image| image.truncate(length(reader))),
         image("an image may be one number longer", move |reader, _, image| {
             image.truncate(if image.len() == length(reader) + 1 { length(reader) } else { image.len() });
         }),
         image("an image may be one slot longer", move |reader, _, image| {
-            image.truncate(if image.len() == length(reader) + 4 { length(reader) } else { image.len() });
+            image.truncate(if image.len() == length(reader) + reader.layout.slot_numbers() {
+                length(reader)
+            } else {
+                image.len()
+            });
         }),
         image("slots that an image has not are unused", move |reader, _, image| {
-            while image.len() % SLOT_NUMBERS == 0 && image.len() < length(reader) {
-                image.extend([-1, 0, 0, 0]);
+            let width = reader.layout.slot_numbers();
+            while image.len() % width == 0 && image.len() < length(reader) {
+                image.push(-1);
+                image.extend(vec![0; width - 1]);
             }
         }),
         image("numbers that an image has not are 0", move |reader, _, image| {
@@ -186,8 +201,10 @@ fn questions() -> Vec<Wrong> {
             }
             _ => None,
         }),
-        answers("slots from n to 15 are empty", |asked| match asked.call? {
-            Call::Ask { slot, .. } if asked.right == "none" && slot.0 < 16 => Some("empty".to_string()),
+        answers("slots from n to the last are empty", |asked| match asked.call? {
+            Call::Ask { reader, slot } if asked.right == "none" && slot.0 < reader.layout.slots() as u64 => {
+                Some("empty".to_string())
+            }
             _ => None,
         }),
         answers("no such slot is answered before 2", |asked| match asked.call? {
@@ -235,6 +252,7 @@ fn questions() -> Vec<Wrong> {
 }
 
 /// Each mistake of this file.
-pub fn all() -> Vec<Wrong> {
-    [ids(), numbers(), lengths_and_modes(), questions()].into_iter().flatten().collect()
+pub fn all(layout: Layout) -> Vec<Wrong> {
+    let images = [ids(), image_ids_judged(), numbers(layout), lengths_and_modes()];
+    images.into_iter().flatten().chain(questions()).collect()
 }

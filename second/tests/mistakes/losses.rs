@@ -2,8 +2,8 @@
 
 use second::events::*;
 use second::reader::{Mode, Ran, Reader};
-use second::script::{Call, READER_NUMBERS};
-use second::table::{Slot, SlotNumber, TrackingId};
+use second::script::{reader_numbers, Call};
+use second::table::{Slot, SlotNumber, TrackingId, PRESSURE, X, Y};
 
 use crate::states::{ids_meet, too_few_bits};
 use crate::wrong::{judges_early, right_step, says, skipped, steps, takes, Wrong};
@@ -106,14 +106,14 @@ fn tables() -> Vec<Wrong> {
         after("an id that changes clears x and y", |before, _, now, _| {
             for (slot, old) in now.pending.iter_mut().zip(&before.pending) {
                 if slot.id != old.id {
-                    (slot.x, slot.y) = (0, 0);
+                    (slot.numbers[X], slot.numbers[Y]) = (0, 0);
                 }
             }
         }),
         after("a lift clears pressure", |before, _, now, _| {
             for (slot, old) in now.pending.iter_mut().zip(&before.pending) {
                 if old.id.is_live() && !slot.id.is_live() {
-                    slot.pressure = 0;
+                    slot.numbers[PRESSURE] = 0;
                 }
             }
         }),
@@ -175,8 +175,8 @@ fn counts() -> Vec<Wrong> {
             ran.bad += u64::from(before.mode != Mode::Following && event.kind == EV_ABS && event.value < -1);
         }),
         after("a bad value is ignored too", |_, _, _, ran| ran.ignored += ran.bad),
-        after("what is unknown while lost is skipped", |_, event, _, ran| {
-            if ran.ignored == 1 && !LISTED.contains(&(event.kind, event.code)) {
+        after("what is unknown while lost is skipped", |before, event, _, ran| {
+            if ran.ignored == 1 && !listed(before.layout).contains(&(event.kind, event.code)) {
                 *ran = Ran { ignored: 1, first_skipped: None, ..skipped(event) };
             }
         }),
@@ -195,8 +195,8 @@ fn counts() -> Vec<Wrong> {
                 continue;
             }
             all.push(says(format!("{name} is cut to {bits} bits"), move |call, words| {
-                if let Call::Run { .. } = call {
-                    let count = &mut words[READER_NUMBERS + 1 + i];
+                if let Call::Run { reader, .. } = call {
+                    let count = &mut words[reader_numbers(reader.layout) + 1 + i];
                     *count = (count.parse::<u64>().unwrap() & ((1 << bits) - 1)).to_string();
                 }
             }));

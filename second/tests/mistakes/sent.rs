@@ -1,9 +1,10 @@
 //! Mistakes in what a frame is sent as: the ids given, the events and their order, the counter and the current slot afterwards.
 
 use second::events::{Event, ABS_MT_POSITION_X, ABS_MT_TRACKING_ID};
-use second::table::{Slot, TrackingId};
+use second::table::{Slot, TrackingId, PRESSURE};
+use second::writer::MOST_EVENTS;
 
-use crate::slow_writer::{four, writes, RIGHT};
+use crate::slow_writer::{numbers_of, six, writes, RIGHT};
 use crate::states::too_few_bits;
 use crate::wrong::Wrong;
 
@@ -67,17 +68,23 @@ fn rows() -> Vec<Wrong> {
         writes("kind 0 keeps the id", |parts| parts.lifted = |old, _| old),
         writes("a lift clears the numbers", |parts| parts.lifted = |_, _| Slot::UNUSED),
         writes("a lift clears pressure", |parts| {
-            parts.lifted = |old, _| Slot { id: TrackingId::UNUSED, pressure: 0, ..old };
+            parts.lifted = |old, _| cleared(old, &[PRESSURE]);
         }),
         writes("a lift takes the frame's numbers", |parts| {
-            parts.lifted =
-                |_, row| Slot { id: TrackingId::UNUSED, x: row[1] as u32, y: row[2] as u32, pressure: row[3] as u32 };
+            parts.lifted = |_, row| Slot { id: TrackingId::UNUSED, numbers: numbers_of(row) };
         }),
     ]
 }
 
+/// The lifted slot with these numbers 0.
+pub fn cleared(old: Slot, numbers: &[usize]) -> Slot {
+    let mut slot = Slot { id: TrackingId::UNUSED, ..old };
+    numbers.iter().for_each(|i| slot.numbers[*i] = 0);
+    slot
+}
+
 /// The right events of a slot, those of this code last.
-fn last(code: u16, old: &Slot, new: &Slot) -> Vec<Event> {
+pub fn last(code: u16, old: &Slot, new: &Slot) -> Vec<Event> {
     let mut events = (RIGHT.numbers)(old, new);
     events.sort_by_key(|event| event.code == code);
     events
@@ -101,10 +108,10 @@ fn events() -> Vec<Wrong> {
         writes("the slot behind the one before is not named", |parts| {
             parts.is_named = |slot, current, before| slot != current && before.map_or(0, |before| before + 1) != slot;
         }),
-        writes("equal numbers are sent", |parts| parts.numbers = |_, new| four(new).to_vec()),
+        writes("equal numbers are sent", |parts| parts.numbers = |_, new| six(new).to_vec()),
         writes("a new contact's numbers are all sent", |parts| {
             parts.numbers = |old, new| match new.id != old.id && new.id.is_live() {
-                true => four(new).to_vec(),
+                true => six(new).to_vec(),
                 false => (RIGHT.numbers)(old, new),
             };
         }),
@@ -127,8 +134,11 @@ fn events() -> Vec<Wrong> {
                     .collect()
             };
         }),
-        writes("79 events are the most", |parts| {
-            parts.end = |events| (RIGHT.end)(events).into_iter().take(79).collect();
+        writes("one event less is the most", |parts| {
+            parts.end = |events| (RIGHT.end)(events).into_iter().take(MOST_EVENTS - 1).collect();
+        }),
+        writes("80 events are the most", |parts| {
+            parts.end = |events| (RIGHT.end)(events).into_iter().take(80).collect();
         }),
     ]
 }

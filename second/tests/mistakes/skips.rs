@@ -2,7 +2,8 @@
 
 use second::events::*;
 use second::reader::Ran;
-use second::script::{Call, READER_NUMBERS};
+use second::script::{reader_numbers, Call};
+use second::table::Layout;
 
 use crate::wrong::{right_step, runs, says, skipped, steps, Wrong};
 
@@ -11,9 +12,20 @@ const TYPES: u16 = 0x20;
 const ABS_CODES: u16 = 0x40;
 const SYN_CODES: u16 = 0x10;
 
-/// Where the second of the five counts stands in an answer, and what comes behind them.
-const UNKNOWN_TYPE: usize = READER_NUMBERS + 2;
-const FIRST: usize = READER_NUMBERS + 6;
+/// Where they stand behind an answer's state: the second of the five counts, and what comes behind them.
+const UNKNOWN_TYPE: usize = 1;
+const FIRST: usize = 5;
+
+/// It tells a run or a record otherwise, from the call, the verdict and the words behind the state.
+fn tells(name: impl Into<String>, change: impl Fn(&Call, &str, &mut Vec<String>) + 'static) -> Wrong {
+    says(name, move |call, words| {
+        if let Call::Run { reader, .. } | Call::One { reader, .. } = call {
+            let mut told = words.split_off(1 + reader_numbers(reader.layout));
+            change(call, &words[0], &mut told);
+            words.append(&mut told);
+        }
+    })
+}
 
 /// It tells other counts of a skipped record: of an unknown type, and of an unknown code.
 fn counts(name: impl Into<String>, of: impl Fn(Event) -> (u64, u64) + 'static) -> Wrong {
@@ -36,7 +48,7 @@ fn is_known(kind: u16) -> bool {
     matches!(kind, EV_SYN | EV_ABS)
 }
 
-fn types() -> Vec<Wrong> {
+fn types(layout: Layout) -> Vec<Wrong> {
     let mut all = vec![
         knows("type 0 is unknown", |kind| kind == EV_ABS),
         knows("type 3 is unknown", |kind| kind == EV_SYN),
@@ -47,8 +59,8 @@ fn types() -> Vec<Wrong> {
         knows("of a type the low byte is looked at", |kind| is_known(kind & 0xff)),
         knows("of a type the high byte is looked at", |kind| is_known(kind) || is_known(kind.swap_bytes())),
         knows("of a type the low two bits are looked at", |kind| is_known(kind & 3)),
-        counts("a code that is listed makes its type known", |event| {
-            let is_listed = LISTED.iter().any(|(_, code)| *code == event.code);
+        counts("a code that is listed makes its type known", move |event| {
+            let is_listed = listed(layout).iter().any(|(_, code)| *code == event.code);
             if is_known(event.kind) || is_listed {
                 (0, 1)
             } else {
@@ -62,8 +74,8 @@ fn types() -> Vec<Wrong> {
                 (1, 0)
             }
         }),
-        counts("a code of another type makes its own unknown", |event| {
-            let is_of = |kind: u16| LISTED.contains(&(kind, event.code));
+        counts("a code of another type makes its own unknown", move |event| {
+            let is_of = |kind: u16| listed(layout).contains(&(kind, event.code));
             if is_known(event.kind) && !is_of(EV_SYN) && !is_of(EV_ABS) {
                 (0, 1)
             } else {
@@ -85,50 +97,40 @@ fn types() -> Vec<Wrong> {
 }
 
 fn told() -> Vec<Wrong> {
-    let mut all = vec![
-        says("the two counts are swapped", |call, words| {
-            if let Call::Run { .. } | Call::One { .. } = call {
-                words.swap(UNKNOWN_TYPE, UNKNOWN_TYPE + 1);
+    vec![
+        tells("the two counts are swapped", |_, _, told| told.swap(UNKNOWN_TYPE, UNKNOWN_TYPE + 1)),
+        tells("the sum stands for unknown types", |_, _, told| {
+            let counts = told[UNKNOWN_TYPE..UNKNOWN_TYPE + 2].iter();
+            let sum: u64 = counts.map(|word| word.parse::<u64>().unwrap()).sum();
+            told[UNKNOWN_TYPE] = sum.to_string();
+        }),
+        tells("none is 0 and 0", |_, _, told| {
+            if told[FIRST] == "none" {
+                told.splice(FIRST.., ["0".to_string(), "0".to_string()]);
             }
         }),
-        says("the sum stands for unknown types", |call, words| {
-            if let Call::Run { .. } | Call::One { .. } = call {
-                let sum: u64 =
-                    words[UNKNOWN_TYPE..UNKNOWN_TYPE + 2].iter().map(|word| word.parse::<u64>().unwrap()).sum();
-                words[UNKNOWN_TYPE] = sum.to_string();
-            }
+        tells("a refused call is told without its none", |_, verdict, told| {
+            told.truncate(if verdict == "0" { told.len() } else { FIRST });
         }),
-        says("none is 0 and 0", |call, words| {
-            if let Call::Run { .. } | Call::One { .. } = call {
-                if words[FIRST] == "none" {
-                    words.splice(FIRST.., ["0".to_string(), "0".to_string()]);
+        tells("a ragged run names what it would skip", |call, verdict, told| {
+            if let (Call::Run { reader, bytes }, "6") = (call, verdict) {
+                let ran = reader.clone().run(&bytes[..bytes.len() / RECORD * RECORD]);
+                if let Ok(Ran { first_skipped: Some((kind, code)), .. }) = ran {
+                    told.splice(FIRST.., [kind.to_string(), code.to_string()]);
                 }
             }
         }),
-        says("a refused call is told without its none", |call, words| {
-            if let Call::Run { .. } | Call::One { .. } = call {
-                words.truncate(if words[0] == "0" { words.len() } else { FIRST });
+        tells("a run names nothing", |call, _, told| {
+            if let Call::Run { .. } = call {
+                told.splice(FIRST.., ["none".to_string()]);
             }
         }),
-        says("a ragged run names what it would skip", |call, words| {
-            if let Call::Run { reader, bytes } = call {
-                let whole = &bytes[..bytes.len() / RECORD * RECORD];
-                if let (Ok(Ran { first_skipped: Some((kind, code)), .. }), "6") =
-                    (reader.clone().run(whole), &*words[0])
-                {
-                    words.splice(FIRST.., [kind.to_string(), code.to_string()]);
-                }
+        tells("one record names nothing", |call, _, told| {
+            if let Call::One { .. } = call {
+                told.splice(FIRST.., ["none".to_string()]);
             }
         }),
-    ];
-    for (what, is_run) in [("a run", true), ("one record", false)] {
-        all.push(says(format!("{what} names nothing"), move |call, words| {
-            if matches!(call, Call::Run { .. }) && is_run || matches!(call, Call::One { .. }) && !is_run {
-                words.splice(FIRST.., ["none".to_string()]);
-            }
-        }));
-    }
-    all
+    ]
 }
 
 /// It names another one than the first skipped.
@@ -151,11 +153,7 @@ fn first_where(records: &[(Event, Ran)], is_so: impl Fn(u16, u16) -> bool) -> Op
     named(records).into_iter().find(|(kind, code)| is_so(*kind, *code))
 }
 
-fn is_unlisted(event: Event) -> bool {
-    !LISTED.contains(&(event.kind, event.code))
-}
-
-fn firsts() -> Vec<Wrong> {
+fn firsts(layout: Layout) -> Vec<Wrong> {
     vec![
         names("the last skipped is named", |records| named(records).last().copied()),
         names("the second skipped is named where there is one", |records| {
@@ -184,8 +182,9 @@ fn firsts() -> Vec<Wrong> {
             let is_bad = records.iter().any(|(_, ran)| ran.bad > 0);
             named(records).first().filter(|_| !is_bad).copied()
         }),
-        names("what is unknown while lost is named", |records| {
-            let unknown = records.iter().find(|(event, _)| is_unlisted(*event));
+        names("what is unknown while lost is named", move |records| {
+            let is_listed = |event: &Event| listed(layout).contains(&(event.kind, event.code));
+            let unknown = records.iter().find(|(event, _)| !is_listed(event));
             unknown.map(|(event, _)| (event.kind, event.code))
         }),
         names("what is ignored is named", |records| {
@@ -215,7 +214,7 @@ fn firsts() -> Vec<Wrong> {
 }
 
 /// It does not name one code of a known type, or one unknown type, but goes on to the next.
-fn unnamed() -> Vec<Wrong> {
+fn unnamed(layout: Layout) -> Vec<Wrong> {
     let abs = (0..ABS_CODES).map(|code| (EV_ABS, code));
     let syn = (0..SYN_CODES).map(|code| (EV_SYN, code));
     let of_code = |(kind, code): (u16, u16)| {
@@ -226,24 +225,25 @@ fn unnamed() -> Vec<Wrong> {
     let of_type = |kind: u16| {
         names(format!("type {kind} is not named"), move |records| first_where(records, |other, _| other != kind))
     };
-    let codes = abs.chain(syn).filter(|pair| !LISTED.contains(pair)).map(of_code);
+    let codes = abs.chain(syn).filter(|pair| !listed(layout).contains(pair)).map(of_code);
     codes.chain((0..TYPES).map(of_type)).collect()
 }
 
-/// It reads one of the seven as unknown, and tells so.
-fn skips_listed() -> Vec<Wrong> {
-    let taken = |listed: (u16, u16)| {
-        steps(format!("{listed:x?} is skipped"), move |reader, event| {
-            if (event.kind, event.code) == listed && right_step(&mut reader.clone(), event).ignored == 0 {
+/// It reads a listed one as unknown, and tells so.
+fn skips_listed(layout: Layout) -> Vec<Wrong> {
+    let taken = |pair: (u16, u16)| {
+        steps(format!("{pair:x?} is skipped"), move |reader, event| {
+            if (event.kind, event.code) == pair && right_step(&mut reader.clone(), event).ignored == 0 {
                 return skipped(event);
             }
             right_step(reader, event)
         })
     };
-    LISTED.into_iter().map(taken).collect()
+    listed(layout).iter().copied().map(taken).collect()
 }
 
 /// Each mistake of this file.
-pub fn all() -> Vec<Wrong> {
-    [types(), told(), firsts(), unnamed(), skips_listed()].into_iter().flatten().collect()
+pub fn all(layout: Layout) -> Vec<Wrong> {
+    let named = [firsts(layout), unnamed(layout), skips_listed(layout)];
+    [types(layout), told()].into_iter().chain(named).flatten().collect()
 }

@@ -2,7 +2,7 @@
 
 use second::events::*;
 use second::script::{marks, Call};
-use second::table::{Slot, SlotNumber, TrackingId, SLOT_NUMBERS};
+use second::table::{Slot, SlotNumber, TrackingId, NUMBERS, SLOT_NUMBERS};
 use second::writer::Writer;
 
 use crate::wrong::{answers, bytes_text, refusal, writer_text, Wrong};
@@ -68,7 +68,7 @@ pub const RIGHT: Parts = Parts {
     },
     is_named: |slot, current, _| slot != current,
     numbers: |old, new| {
-        let pairs = four(old).into_iter().zip(four(new));
+        let pairs = six(old).into_iter().zip(six(new));
         pairs.filter(|(old, new)| old != new).map(|(_, new)| new).collect()
     },
     end: |mut events| {
@@ -84,14 +84,10 @@ pub const RIGHT: Parts = Parts {
     put: |buffer, position, records| buffer[position..position + records.len()].copy_from_slice(records),
 };
 
-/// A slot's four numbers as events.
-pub fn four(slot: &Slot) -> [Event; SLOT_NUMBERS] {
-    [
-        Event::abs(ABS_MT_TRACKING_ID, slot.id.0),
-        Event::abs(ABS_MT_POSITION_X, slot.x as i32),
-        Event::abs(ABS_MT_POSITION_Y, slot.y as i32),
-        Event::abs(ABS_MT_PRESSURE, slot.pressure as i32),
-    ]
+/// A slot's six numbers as events.
+pub fn six(slot: &Slot) -> Vec<Event> {
+    let numbers = CODES.into_iter().zip(slot.numbers).map(|(code, number)| Event::abs(code, number as i32));
+    [Event::abs(ABS_MT_TRACKING_ID, slot.id.0)].into_iter().chain(numbers).collect()
 }
 
 /// A writer one part of which is changed.
@@ -107,6 +103,11 @@ pub fn writes(name: impl Into<String>, change: impl Fn(&mut Parts)) -> Wrong {
             _ => None,
         }
     })
+}
+
+/// The numbers of a frame's row, without its kind.
+pub fn numbers_of(row: &[i32]) -> [u32; NUMBERS] {
+    std::array::from_fn(|i| row[1 + i] as u32)
 }
 
 /// A writer that takes frames that are to be refused with 4.
@@ -167,7 +168,7 @@ impl Parts {
                     taken.push(free);
                 }
             }
-            after.table[s] = Slot { id, x: row[1] as u32, y: row[2] as u32, pressure: row[3] as u32 };
+            after.table[s] = Slot { id, numbers: numbers_of(row) };
         }
         Writer { counter: (self.counter)(writer.counter, &given), ..after }
     }

@@ -4,7 +4,7 @@ use second::events::{events, Event, EV_ABS, EV_SYN};
 use second::pod::{Pod, Report};
 use second::reader::{Ran, Reader};
 use second::refusal::Refusal;
-use second::script::{marks, Call, InWords, READER_NUMBERS, WRITER_NUMBERS};
+use second::script::{marks, reader_numbers, Call, InWords, WRITER_NUMBERS};
 use second::writer::Writer;
 
 /// A line of a script, what it is, and the right answer.
@@ -161,7 +161,7 @@ fn verdict(answer: &str, call: &Call) -> (u8, Option<String>) {
 /// The answer where a call is refused, with no need.
 fn refused(call: &Call, number: u8) -> String {
     match call {
-        Call::Fresh(_) => format!("{number}{}", " 0".repeat(READER_NUMBERS)),
+        Call::Fresh(layout, _) => format!("{number}{}", " 0".repeat(reader_numbers(*layout))),
         Call::New(_) => format!("{number}{}", " 0".repeat(WRITER_NUMBERS)),
         Call::Run { reader, .. } | Call::One { reader, .. } => {
             format!("{number} {} {}", reader_text(reader), ran_text(&Ran::NOTHING))

@@ -1,9 +1,7 @@
 -- `acts::abs_act`: what an event of type 3 asks, by its code. Assumes nothing.
 use borrow.Author.Needs.{needs}
-use mathlib.Core.Path.{sym}
-use Rattle.panel.proofs.Setups.{small}
 use borrow.Author.Tests.{ne-eqb}
-use Rattle.acts.proofs.Values.{x-in, x-out, y-in, y-out, pressure-in, pressure-out}
+use Rattle.panel.proofs.Setups.{small}
 use Rattle.acts.proofs.abs_act.Statement.{statement}
 use Rattle.acts.proofs.abs_act.Tie as tie
 
@@ -19,39 +17,11 @@ id-act-requires c κs = search needs
 returns-2 : tie.Need-returns-2
 returns-2 c = rw (c .before .if2 .taken) (c .id-act .ensures)
 
+axis-act-requires : tie.Need-axis-act-requires
+axis-act-requires c κs = c .before .before .pre
+
 returns-3 : tie.Need-returns-3
-returns-3 c = rw (c .before .before .if3 .taken) (sym (x-in (c .before .before .before .before .before .args .setup) (small (c .before .before .before .before .before .args .setup) (c .before .before .before .before .before .pre)) (c .before .before .before .before .before .args .value) (c .if4 .taken)))
-
-returns-4 : tie.Need-returns-4
-returns-4 c = rw (c .before .before .if3 .taken) (sym (x-out (c .before .before .before .before .before .args .setup) (small (c .before .before .before .before .before .args .setup) (c .before .before .before .before .before .pre)) (c .before .before .before .before .before .args .value) (c .if4 .left)))
-
-returns-5 : tie.Need-returns-5
-returns-5 c = rw (c .before .before .if5 .taken) (sym (y-in (c .before .before .before .before .before .before .args .setup) (small (c .before .before .before .before .before .before .args .setup) (c .before .before .before .before .before .before .pre)) (c .before .before .before .before .before .before .args .value) (c .if6 .taken)))
-
-returns-6 : tie.Need-returns-6
-returns-6 c = rw (c .before .before .if5 .taken) (sym (y-out (c .before .before .before .before .before .before .args .setup) (small (c .before .before .before .before .before .before .args .setup) (c .before .before .before .before .before .before .pre)) (c .before .before .before .before .before .before .args .value) (c .if6 .left)))
-
-returns-7 : tie.Need-returns-7
-returns-7 c = rw (c .before .before .if7 .taken) (sym (pressure-in (c .before .before .before .before .before .before .before .args .setup) (small (c .before .before .before .before .before .before .before .args .setup) (c .before .before .before .before .before .before .before .pre)) (c .before .before .before .before .before .before .before .args .value) (c .if8 .taken)))
-
-returns-8 : tie.Need-returns-8
-returns-8 c = rw (c .before .before .if7 .taken) (sym (pressure-out (c .before .before .before .before .before .before .before .args .setup) (small (c .before .before .before .before .before .before .before .args .setup) (c .before .before .before .before .before .before .before .pre)) (c .before .before .before .before .before .before .before .args .value) (c .if8 .left)))
-
-returns-9 : tie.Need-returns-9
-returns-9 c = rw (ne-eqb _ 0x2f (c .before .before .before .before .if1 .left), ne-eqb _ 0x39 (c .before .before .before .if2 .left), ne-eqb _ 0x35 (c .before .before .if3 .left), ne-eqb _ 0x36 (c .before .if5 .left), ne-eqb _ 0x3a (c .if7 .left))
+returns-3 c = rw (ne-eqb _ 0x2f (c .before .before .if1 .left), ne-eqb _ 0x39 (c .before .if2 .left)) (c .axis-act .ensures)
 
 pub abs-act-spec : {M : Type 1} → statement M
-abs-act-spec =
-    tie.close
-    (tie.spec
-    slot-act-requires
-    returns
-    id-act-requires
-    returns-2
-    returns-3
-    returns-4
-    returns-5
-    returns-6
-    returns-7
-    returns-8
-    returns-9)
+abs-act-spec = tie.close (tie.spec slot-act-requires returns id-act-requires returns-2 axis-act-requires returns-3)

@@ -4,7 +4,7 @@ use mathlib.Core.Path.{sym}
 use native.Mathlib.Omega.{arith}
 use mir.Syntax.{w32}
 use mir.ValLaws.{toZ-pos}
-use Rattle.acts.proofs.Values.{id-small, id-none, id-not}
+use Rattle.common.proofs.Values.{id-small, id-none, id-not}
 use Rattle.acts.proofs.id_act.Statement.{statement}
 use Rattle.acts.proofs.id_act.Tie as tie
 

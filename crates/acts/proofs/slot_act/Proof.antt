@@ -1,11 +1,12 @@
 -- `acts::slot_act`: what ABS_MT_SLOT asks. Assumes nothing.
 use mathlib.Core.Path.{sym}
-use Rattle.acts.proofs.Values.{slot-in, slot-out}
+use native.Mathlib.Omega.{arith}
+use Rattle.common.proofs.Values.{slot-in, slot-out}
 use Rattle.acts.proofs.slot_act.Statement.{statement}
 use Rattle.acts.proofs.slot_act.Tie as tie
 
 returns : tie.Need-returns
-returns c = sym (slot-in (c .before .args .n) (c .before .args .value) (c .if1 .taken) (c .before .pre))
+returns c = sym (slot-in (c .before .args .n) (c .before .args .value) (c .if1 .taken) (omega (arith, c .before .pre)))
 
 returns-2 : tie.Need-returns-2
 returns-2 c = sym (slot-out (c .before .args .n) (c .before .args .value) (c .if1 .left))

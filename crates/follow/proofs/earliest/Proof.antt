@@ -1,7 +1,7 @@
 -- `follow::earliest`: the number of the first record skipped, after one more. Assumes nothing.
 use mathlib.Core.Path.{sym}
 use native.Mathlib.Omega.{arith}
-use Rattle.follow.proofs.Firsts.{after-some, after-none}
+use Rattle.common.proofs.Firsts.{after-some, after-none}
 use Rattle.follow.proofs.earliest.Statement.{statement}
 use Rattle.follow.proofs.earliest.Tie as tie
 

@@ -6,7 +6,7 @@ use native.Mathlib.Omega.{arith}
 use lib.ListN.{length}
 use Rattle.model.specs.Events.{Event}
 use Rattle.model.specs.Reader.{event}
-use Rattle.follow.proofs.Firsts.{within-some, at-some}
+use Rattle.common.proofs.Firsts.{within-some, at-some}
 use Rattle.follow.proofs.first_of.Statement.{statement}
 use Rattle.follow.proofs.first_of.Tie as tie
 

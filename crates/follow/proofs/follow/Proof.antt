@@ -21,16 +21,18 @@ use Rattle.common.specs.Seen.{countsOf, countsFrom}
 use Rattle.common.proofs.Back.{counts-seen}
 use Rattle.panel.specs.declared.Setup.{Setup}
 use Rattle.panel.specs.declared.Slot.{Slot}
-use Rattle.panel.specs.Seen.{tableOf, panelSeen, blank}
+use Rattle.panel.specs.Seen.{slotOf, tableOf, panelSeen, blank, unused}
 use Rattle.panel.proofs.Setups.{small}
 use Rattle.acts.specs.declared.Act.{Act}
 use Rattle.acts.specs.Seen.{actOf}
 use Rattle.follow.specs.declared.Ended.{Ended}
 use Rattle.follow.specs.Seen.{readerOf}
-use Rattle.follow.specs.Runs.{onward, counted, endedFrom, lostAt, FirstWithin, firstAt}
-use Rattle.follow.proofs.Firsts.{names, stays-within}
-use Rattle.follow.proofs.Turns.{Pending, uncompared, compared, with-id, with-number, sofar, selected, keptAt, ends}
-use Rattle.follow.proofs.Turns.{Place, asks, skips-type, skips-code, selects, shows, repeats, drops, spoils, stores, loses}
+use Rattle.common.specs.Runs.{onward, counted, FirstWithin, firstAt}
+use Rattle.common.proofs.Firsts.{names, stays-within}
+use Rattle.common.proofs.Turns.{Pending, uncompared, compared, with-id, with-number, sofar, selected}
+use Rattle.common.proofs.Turns.{Place, asks, skips-type, skips-code, selects, shows, repeats, drops, spoils, stores}
+use Rattle.follow.specs.Runs.{endedFrom, lostAt}
+use Rattle.follow.proofs.Ends.{keptAt, ends, loses}
 use Rattle.follow.proofs.follow.Statement.{statement}
 use Rattle.follow.proofs.follow.Tie as tie
 
@@ -48,7 +50,7 @@ record Kept
   pub inside : k ≤ count
   pub below : now .current < setup .n
   pub few : so .shown + so .types + so .codes ≤ k
-  pub pends : Pending (setup .n) written pending
+  pub pends : Pending slotOf blank unused records (setup .n) written pending
   pub left :
       onward (panelSeen setup) start nothing (eventsFrom count bytes 0)
       ≡ onward (panelSeen setup) now so (eventsFrom (count - k) bytes (8 * k))
@@ -80,11 +82,11 @@ count p = length (bytes p) / 8
 inside : (p : tie.After-act-of Inv-loop μ-loop) → top p .loop .k < count p
 inside p = search needs
 
-abbrev here : tie.After-act-of Inv-loop μ-loop → Place
+abbrev here : tie.After-act-of Inv-loop μ-loop → Place slotOf blank
 here p =
     let l = top p .loop in
     record {
-      setup = setup p;
+      panel = panelSeen (setup p);
       bytes = bytes p;
       count = count p;
       k = l .k;
@@ -145,7 +147,7 @@ loop-holds c =
     let n = length (c .before .args .bytes .now) / 8 in
     let z : n - 0 ≡ n = omega arith in
     let s = c .before .args in
-    let table = uncompared (s .setup .n) (s .pending0) (search needs) (c .before .pre .2) in
+    let table = uncompared slotOf blank unused records (s .setup .n) (s .pending0) (search needs) (c .before .pre .2) in
     record {
       inside = search needs;
       below = c .before .pre .1;
@@ -352,7 +354,7 @@ loop-again-4 c =
     let j = c .before .a .given .0 .0 .0 in
     let e = asked p ∙ ap (act p) (c .before .a .given .1) in
     let left = l .inv .left ∙ selects (here p) j e in
-    let below = selected (setup p) (read p) j e in
+    let below = selected (panelSeen (setup p)) (read p) j e in
     record { inside = search needs; below = below; few = search needs; pends = l .inv .pends; left = left; slots = l .inv .slots; there = l .inv .there }
 
 enum-known-a-2 : tie.Need-enum-known-a-2 Inv-loop μ-loop
@@ -382,7 +384,7 @@ loop-again-5 c =
     let l = top p .loop in
     let v = c .before .before .a2 .given .0 .0 in
     let o = getD (l .pending) (l .current) blank in
-    let x : Slot = record { id = v; x = o .x; y = o .y; pressure = o .pressure } in
+    let x : Slot = record { id = v; x = o .x; y = o .y; pressure = o .pressure; major = o .major; minor = o .minor } in
     let e = asked p ∙ ap (act p) (c .before .before .a2 .given .1) in
     let left = l .inv .left ∙ stores (here p) 0 (v .0) x e (held p) refl in
     let table = with-id (setup p .n) (l .written) (l .pending) (l .inv .pends) (l .current) x (l .inv .below) in
@@ -409,7 +411,7 @@ loop-again-6 c =
     let l = top p .loop in
     let v = c .before .before .a3 .given .0 .0 in
     let o = getD (l .pending) (l .current) blank in
-    let x : Slot = record { id = o .id; x = v; y = o .y; pressure = o .pressure } in
+    let x : Slot = record { id = o .id; x = v; y = o .y; pressure = o .pressure; major = o .major; minor = o .minor } in
     let e = asked p ∙ ap (act p) (c .before .before .a3 .given .1) in
     let left = l .inv .left ∙ stores (here p) 1 (pos v) x e (held p) refl in
     let table = with-number (setup p .n) (l .written) (l .pending) (l .inv .pends) (l .current) x (l .inv .below) refl in
@@ -436,7 +438,7 @@ loop-again-7 c =
     let l = top p .loop in
     let v = c .before .before .a4 .given .0 .0 in
     let o = getD (l .pending) (l .current) blank in
-    let x : Slot = record { id = o .id; x = o .x; y = v; pressure = o .pressure } in
+    let x : Slot = record { id = o .id; x = o .x; y = v; pressure = o .pressure; major = o .major; minor = o .minor } in
     let e = asked p ∙ ap (act p) (c .before .before .a4 .given .1) in
     let left = l .inv .left ∙ stores (here p) 2 (pos v) x e (held p) refl in
     let table = with-number (setup p .n) (l .written) (l .pending) (l .inv .pends) (l .current) x (l .inv .below) refl in
@@ -463,9 +465,63 @@ loop-again-8 c =
     let l = top p .loop in
     let v = c .before .before .a5 .given .0 .0 in
     let o = getD (l .pending) (l .current) blank in
-    let x : Slot = record { id = o .id; x = o .x; y = o .y; pressure = v } in
+    let x : Slot = record { id = o .id; x = o .x; y = o .y; pressure = v; major = o .major; minor = o .minor } in
     let e = asked p ∙ ap (act p) (c .before .before .a5 .given .1) in
     let left = l .inv .left ∙ stores (here p) 3 (pos v) x e (held p) refl in
+    let table = with-number (setup p .n) (l .written) (l .pending) (l .inv .pends) (l .current) x (l .inv .below) refl in
+    record { inside = search needs; below = l .inv .below; few = search needs; pends = table; left = left; slots = l .inv .slots; there = l .inv .there }
+
+enum-known-a-6 : tie.Need-enum-known-a-6 Inv-loop μ-loop
+enum-known-a-6 c = search needs
+
+mul-pending-5 : tie.Need-mul-pending-5 Inv-loop μ-loop
+mul-pending-5 c = search needs
+
+way-write-given-pending-4 : tie.Need-way-write-given-pending-4 Inv-loop μ-loop
+way-write-given-pending-4 c = search needs
+
+add-k-9 : tie.Need-add-k-9 Inv-loop μ-loop
+add-k-9 c = search needs
+
+loop-less-9 : tie.Need-loop-less-9 Inv-loop μ-loop
+loop-less-9 c = search needs
+
+loop-again-9 : tie.Need-loop-again-9 Inv-loop μ-loop
+loop-again-9 c =
+    let p = c .before .before .before .before in
+    let l = top p .loop in
+    let v = c .before .before .a6 .given .0 .0 in
+    let o = getD (l .pending) (l .current) blank in
+    let x : Slot = record { id = o .id; x = o .x; y = o .y; pressure = o .pressure; major = v; minor = o .minor } in
+    let e = asked p ∙ ap (act p) (c .before .before .a6 .given .1) in
+    let left = l .inv .left ∙ stores (here p) 4 (pos v) x e (held p) refl in
+    let table = with-number (setup p .n) (l .written) (l .pending) (l .inv .pends) (l .current) x (l .inv .below) refl in
+    record { inside = search needs; below = l .inv .below; few = search needs; pends = table; left = left; slots = l .inv .slots; there = l .inv .there }
+
+enum-known-a-7 : tie.Need-enum-known-a-7 Inv-loop μ-loop
+enum-known-a-7 c = search needs
+
+mul-pending-6 : tie.Need-mul-pending-6 Inv-loop μ-loop
+mul-pending-6 c = search needs
+
+way-write-given-pending-5 : tie.Need-way-write-given-pending-5 Inv-loop μ-loop
+way-write-given-pending-5 c = search needs
+
+add-k-10 : tie.Need-add-k-10 Inv-loop μ-loop
+add-k-10 c = search needs
+
+loop-less-10 : tie.Need-loop-less-10 Inv-loop μ-loop
+loop-less-10 c = search needs
+
+loop-again-10 : tie.Need-loop-again-10 Inv-loop μ-loop
+loop-again-10 c =
+    let p = c .before .before .before .before in
+    let l = top p .loop in
+    let v = c .before .before .a7 .given .0 .0 in
+    let o = getD (l .pending) (l .current) blank in
+    let x : Slot = record { id = o .id; x = o .x; y = o .y; pressure = o .pressure; major = o .major; minor = v } in
+    let e = asked p ∙ ap (act p) (c .before .before .a7 .given .1) in
+    let left = l .inv .left ∙ stores (here p) 5 (pos v) x e (held p) refl in
     let table = with-number (setup p .n) (l .written) (l .pending) (l .inv .pends) (l .current) x (l .inv .below) refl in
     record { inside = search needs; below = l .inv .below; few = search needs; pends = table; left = left; slots = l .inv .slots; there = l .inv .there }
 
@@ -555,5 +611,17 @@ follow-spec =
     add-k-8
     loop-less-8
     loop-again-8
+    enum-known-a-6
+    mul-pending-5
+    way-write-given-pending-4
+    add-k-9
+    loop-less-9
+    loop-again-9
+    enum-known-a-7
+    mul-pending-6
+    way-write-given-pending-5
+    add-k-10
+    loop-less-10
+    loop-again-10
     counted-requires-4
     returns-4)

@@ -7,7 +7,6 @@ use lib.ListN.{length, set}
 use Rattle.model.specs.Panel.{perSlot, records}
 use Rattle.model.specs.Frame.{numbersFrom}
 use Rattle.panel.specs.Seen.{slotFrom}
-use Rattle.panel.proofs.Lent.{row-read}
 use Rattle.image.proofs.Images.{filled, filled-start, filled-next, filled-end}
 use Rattle.image.proofs.image_table.Statement.{statement}
 use Rattle.image.proofs.image_table.Tie as tie
@@ -24,41 +23,11 @@ unused-table-requires c κs = search needs
 loop-holds : tie.Need-loop-holds Inv-loop μ-loop
 loop-holds c = (search needs, search needs, search needs, c .unused-table .ensures ∙ filled-start (c .before .args .image .now))
 
-mul-at : tie.Need-mul-at Inv-loop μ-loop
-mul-at c = search needs
+mul-row-at : tie.Need-mul-row-at Inv-loop μ-loop
+mul-row-at c = search needs
 
-mul-slot-of : tie.Need-mul-slot-of Inv-loop μ-loop
-mul-slot-of c = search needs
-
-shared-slice-copy-out-slot-of : tie.Need-shared-slice-copy-out-slot-of Inv-loop μ-loop
-shared-slice-copy-out-slot-of c = search needs
-
-add-slot-of : tie.Need-add-slot-of Inv-loop μ-loop
-add-slot-of c = search needs
-
-mul-slot-of-2 : tie.Need-mul-slot-of-2 Inv-loop μ-loop
-mul-slot-of-2 c = search needs
-
-shared-slice-copy-out-slot-of-2 : tie.Need-shared-slice-copy-out-slot-of-2 Inv-loop μ-loop
-shared-slice-copy-out-slot-of-2 c = search needs
-
-add-slot-of-2 : tie.Need-add-slot-of-2 Inv-loop μ-loop
-add-slot-of-2 c = search needs
-
-mul-slot-of-3 : tie.Need-mul-slot-of-3 Inv-loop μ-loop
-mul-slot-of-3 c = search needs
-
-shared-slice-copy-out-slot-of-3 : tie.Need-shared-slice-copy-out-slot-of-3 Inv-loop μ-loop
-shared-slice-copy-out-slot-of-3 c = search needs
-
-add-slot-of-3 : tie.Need-add-slot-of-3 Inv-loop μ-loop
-add-slot-of-3 c = search needs
-
-mul-slot-of-4 : tie.Need-mul-slot-of-4 Inv-loop μ-loop
-mul-slot-of-4 c = search needs
-
-shared-slice-copy-out-slot-of-4 : tie.Need-shared-slice-copy-out-slot-of-4 Inv-loop μ-loop
-shared-slice-copy-out-slot-of-4 c = search needs
+row-at-requires : tie.Need-row-at-requires Inv-loop μ-loop
+row-at-requires c κs = search needs
 
 slot-of-requires : tie.Need-slot-of-requires Inv-loop μ-loop
 slot-of-requires c κs = search needs
@@ -77,18 +46,19 @@ loop-less c = search needs
 
 loop-again : tie.Need-loop-again Inv-loop μ-loop
 loop-again c =
-    let l = c .before .before .before .before .before .before .before .before .args .image .now in
-    let i = c .before .before .before .before .before .before .loop .i in
-    let e : c .slot-of .result ≡ slotFrom (numbersFrom perSlot l (perSlot * i)) = c .slot-of .ensures ∙ ap slotFrom (row-read l (perSlot * i) (search needs) (search needs) (search needs) (search needs)) in
-    let h : i < records = omega (arith, c .before .before .before .before .before .before .loop .inv, c .before .before .before .before .before .loop-test .taken) in
-    (search needs, search needs, search needs, ap₂ (λ t x. set t i x) (c .before .before .before .before .before .before .loop .inv .3) e ∙ filled-next l i h)
+    let at = c .before .before .before in
+    let l = at .before .before .args .image .now in
+    let i = at .loop .i in
+    let e : c .slot-of .result ≡ slotFrom (numbersFrom perSlot l (perSlot * i)) = c .slot-of .ensures ∙ ap slotFrom (c .before .row-at .ensures) in
+    let h : i < records = omega (arith, at .loop .inv, c .before .before .loop-test .taken) in
+    (search needs, search needs, search needs, ap₂ (λ t x. set t i x) (at .loop .inv .3) e ∙ filled-next l i h)
 
 returns : tie.Need-returns Inv-loop μ-loop
 returns c =
     let l = c .before .loop in
-    let u = c .before .before .before .args .setup in
-    let e : l .i ≡ u .n = omega (arith, l .inv) in
-    l .inv .3 ∙ ap (filled (c .before .before .before .args .image .now)) e ∙ filled-end u (c .before .before .before .args .image .now)
+    let a = c .before .before .before .args in
+    let e : l .i ≡ a .setup .n = omega (arith, l .inv) in
+    l .inv .3 ∙ ap (filled (a .image .now)) e ∙ filled-end (a .setup) (a .image .now)
 
 pub image-table-spec : {M : Type 1} → statement M
 image-table-spec =
@@ -98,18 +68,8 @@ image-table-spec =
     μ-loop
     unused-table-requires
     loop-holds
-    mul-at
-    mul-slot-of
-    shared-slice-copy-out-slot-of
-    add-slot-of
-    mul-slot-of-2
-    shared-slice-copy-out-slot-of-2
-    add-slot-of-2
-    mul-slot-of-3
-    shared-slice-copy-out-slot-of-3
-    add-slot-of-3
-    mul-slot-of-4
-    shared-slice-copy-out-slot-of-4
+    mul-row-at
+    row-at-requires
     slot-of-requires
     mul-t
     array-set-from-t

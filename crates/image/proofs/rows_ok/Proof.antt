@@ -8,8 +8,8 @@ use native.Mathlib.Omega.{arith}
 use Rattle.model.specs.Panel.{perSlot}
 use Rattle.model.specs.Table.{goodSlot, goodRecords}
 use Rattle.model.specs.Frame.{rowsFrom, numbersFrom}
+use Rattle.common.proofs.Signs.{first-false, first-true}
 use Rattle.panel.specs.Seen.{fieldsOf}
-use Rattle.panel.proofs.Lent.{row-read}
 use Rattle.image.proofs.Images.{good-next, good-end}
 use Rattle.image.proofs.rows_ok.Statement.{statement}
 use Rattle.image.proofs.rows_ok.Tie as tie
@@ -20,15 +20,27 @@ Inv-loop setup image n i₀ i = (i ≤ n) × (goodRecords (fieldsOf setup) n (ro
 abbrev μ-loop : tie.MeasureT-loop
 μ-loop setup image n i₀ i = n - i
 
+-- ---- the places
+
+abbrev loop : tie.After-row-ok Inv-loop μ-loop → tie.At-loop Inv-loop μ-loop
+loop c = c .before .before .before
+
+abbrev start : tie.After-row-ok Inv-loop μ-loop → tie.Start Inv-loop μ-loop
+start c = loop c .before
+
+-- What a turn's test says of all rows.
 step : (c : tie.After-row-ok Inv-loop μ-loop)
-    → goodRecords (fieldsOf (c .before .before .before .before .before .before .before .args .setup)) (c .before .before .before .before .before .before .before .args .setup .n) (rowsFrom perSlot (c .before .before .before .before .before .before .before .args .setup .n) (c .before .before .before .before .before .before .before .args .image .now) 0)
-    ≡ (c .row-ok .result && goodRecords (fieldsOf (c .before .before .before .before .before .before .before .args .setup)) (c .before .before .before .before .before .before .before .args .setup .n - (c .before .before .before .before .before .before .loop .i + 1)) (rowsFrom perSlot (c .before .before .before .before .before .before .before .args .setup .n - (c .before .before .before .before .before .before .loop .i + 1)) (c .before .before .before .before .before .before .before .args .image .now) (perSlot * (c .before .before .before .before .before .before .loop .i + 1))))
+    → (let a = start c .args in let n = a .setup .n in let i = loop c .loop .i in let fs = fieldsOf (a .setup) in
+    goodRecords fs n (rowsFrom perSlot n (a .image .now) 0) ≡ (c .row-ok .result && goodRecords fs (n - (i + 1)) (rowsFrom perSlot (n - (i + 1)) (a .image .now) (perSlot * (i + 1)))))
 step c =
-    let u = c .before .before .before .before .before .before .before .args .setup in
-    let l = c .before .before .before .before .before .before .before .args .image .now in
-    let i = c .before .before .before .before .before .before .loop .i in
-    let e : c .row-ok .result ≡ goodSlot (fieldsOf u) (numbersFrom perSlot l (perSlot * i)) = c .row-ok .ensures ∙ ap (goodSlot (fieldsOf u)) (row-read l (perSlot * i) (search needs) (search needs) (search needs) (search needs)) in
-    c .before .before .before .before .before .before .loop .inv .1 ∙ good-next (fieldsOf u) l (u .n) i (search needs) ∙ ap (λ b. b && goodRecords (fieldsOf u) (u .n - (i + 1)) (rowsFrom perSlot (u .n - (i + 1)) l (perSlot * (i + 1)))) (sym e)
+    let a = start c .args in
+    let n = a .setup .n in
+    let l = a .image .now in
+    let i = loop c .loop .i in
+    let fs = fieldsOf (a .setup) in
+    let e : c .row-ok .result ≡ goodSlot fs (numbersFrom perSlot l (perSlot * i)) = c .row-ok .ensures ∙ ap (goodSlot fs) (c .before .row-at .ensures) in
+    loop c .loop .inv .1 ∙ good-next fs l n i (search needs)
+    ∙ ap (λ b. b && goodRecords fs (n - (i + 1)) (rowsFrom perSlot (n - (i + 1)) l (perSlot * (i + 1)))) (sym e)
 
 loop-holds : tie.Need-loop-holds Inv-loop μ-loop
 loop-holds c =
@@ -36,47 +48,17 @@ loop-holds c =
     let z : n - 0 ≡ n = omega arith in
     (search needs, rw z)
 
-mul-at : tie.Need-mul-at Inv-loop μ-loop
-mul-at c = search needs
+mul-row-at : tie.Need-mul-row-at Inv-loop μ-loop
+mul-row-at c = search needs
 
-mul-row-ok : tie.Need-mul-row-ok Inv-loop μ-loop
-mul-row-ok c = search needs
-
-shared-slice-copy-out-row-ok : tie.Need-shared-slice-copy-out-row-ok Inv-loop μ-loop
-shared-slice-copy-out-row-ok c = search needs
-
-add-row-ok : tie.Need-add-row-ok Inv-loop μ-loop
-add-row-ok c = search needs
-
-mul-row-ok-2 : tie.Need-mul-row-ok-2 Inv-loop μ-loop
-mul-row-ok-2 c = search needs
-
-shared-slice-copy-out-row-ok-2 : tie.Need-shared-slice-copy-out-row-ok-2 Inv-loop μ-loop
-shared-slice-copy-out-row-ok-2 c = search needs
-
-add-row-ok-2 : tie.Need-add-row-ok-2 Inv-loop μ-loop
-add-row-ok-2 c = search needs
-
-mul-row-ok-3 : tie.Need-mul-row-ok-3 Inv-loop μ-loop
-mul-row-ok-3 c = search needs
-
-shared-slice-copy-out-row-ok-3 : tie.Need-shared-slice-copy-out-row-ok-3 Inv-loop μ-loop
-shared-slice-copy-out-row-ok-3 c = search needs
-
-add-row-ok-3 : tie.Need-add-row-ok-3 Inv-loop μ-loop
-add-row-ok-3 c = search needs
-
-mul-row-ok-4 : tie.Need-mul-row-ok-4 Inv-loop μ-loop
-mul-row-ok-4 c = search needs
-
-shared-slice-copy-out-row-ok-4 : tie.Need-shared-slice-copy-out-row-ok-4 Inv-loop μ-loop
-shared-slice-copy-out-row-ok-4 c = search needs
+row-at-requires : tie.Need-row-at-requires Inv-loop μ-loop
+row-at-requires c κs = search needs
 
 row-ok-requires : tie.Need-row-ok-requires Inv-loop μ-loop
 row-ok-requires c κs = search needs
 
 returns : tie.Need-returns Inv-loop μ-loop
-returns c = sym (rw (not-true (c .before .row-ok .result) (c .if1 .taken)) at (step (c .before)))
+returns c = sym (step (c .before) ∙ first-false _ _ (not-true (c .before .row-ok .result) (c .if1 .taken)))
 
 add-i : tie.Need-add-i Inv-loop μ-loop
 add-i c = search needs
@@ -85,33 +67,12 @@ loop-less : tie.Need-loop-less Inv-loop μ-loop
 loop-less c = search needs
 
 loop-again : tie.Need-loop-again Inv-loop μ-loop
-loop-again c = (search needs, rw (not-false (c .before .row-ok .result) (c .if1 .left)) at (step (c .before)))
+loop-again c = (search needs, step (c .before) ∙ first-true _ _ (not-false (c .before .row-ok .result) (c .if1 .left)))
 
 returns-2 : tie.Need-returns-2 Inv-loop μ-loop
-returns-2 c = sym (c .before .loop .inv .1 ∙ good-end (fieldsOf (c .before .before .args .setup)) (c .before .before .args .image .now) (c .before .before .args .setup .n) (c .before .loop .i) (search needs))
+returns-2 c =
+    let a = c .before .before .args in
+    sym (c .before .loop .inv .1 ∙ good-end (fieldsOf (a .setup)) (a .image .now) (a .setup .n) (c .before .loop .i) (search needs))
 
 pub rows-ok-spec : {M : Type 1} → statement M
-rows-ok-spec =
-    tie.close
-    (tie.spec
-    Inv-loop
-    μ-loop
-    loop-holds
-    mul-at
-    mul-row-ok
-    shared-slice-copy-out-row-ok
-    add-row-ok
-    mul-row-ok-2
-    shared-slice-copy-out-row-ok-2
-    add-row-ok-2
-    mul-row-ok-3
-    shared-slice-copy-out-row-ok-3
-    add-row-ok-3
-    mul-row-ok-4
-    shared-slice-copy-out-row-ok-4
-    row-ok-requires
-    returns
-    add-i
-    loop-less
-    loop-again
-    returns-2)
+rows-ok-spec = tie.close (tie.spec Inv-loop μ-loop loop-holds mul-row-at row-at-requires row-ok-requires returns add-i loop-less loop-again returns-2)

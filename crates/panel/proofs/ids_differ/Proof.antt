@@ -11,19 +11,20 @@ use lib.ListN.{take, getD, length}
 use mir.Syntax.{w32}
 use mir.Val.{SFits, toZ, ofZ}
 use mir.ValLaws.{toZ-ofZ}
+use Rattle.model.specs.Panel.{records}
 use Rattle.model.specs.Numbers.{eqZ, minusOne}
 use Rattle.model.specs.Table.{ids, unheld}
 use Rattle.panel.specs.declared.Slot.{Slot}
 use Rattle.common.specs.Seen.{natural}
-use Rattle.panel.specs.Seen.{tableOf, blank}
-use Rattle.panel.proofs.Apart.{Walked, dead-turn, free-turn, met-turn, clash-turn, walk-over}
+use Rattle.panel.specs.Seen.{slotOf, tableOf, blank, unused}
+use Rattle.common.proofs.Apart.{Walked, dead-turn, free-turn, met-turn, clash-turn, walk-over}
 use Rattle.panel.proofs.ids_differ.Statement.{statement}
 use Rattle.panel.proofs.ids_differ.Tie as tie
 
 -- The first k slots are walked over.
 record Seen (n : ℕ) (t : List Slot) (met k : ℕ) : Type 0 where
   inside : k ≤ n
-  walked : Walked t k met
+  walked : Walked slotOf t k met
 
 abbrev Inv-loop : tie.InvT-loop
 Inv-loop n t met₀ k₀ met k = Seen n t met k
@@ -61,7 +62,7 @@ met c = turn c .loop .met
 abbrev id : Id → ℤ
 id c = getD (t c) (k c) blank .id .0
 
-walked : (c : Id) → Walked (t c) (k c) (met c)
+walked : (c : Id) → Walked slotOf (t c) (k c) (met c)
 walked c = turn c .loop .inv .walked
 
 inside : (c : Id) → k c < length (t c)
@@ -120,7 +121,7 @@ loop-again c =
     let l = c .before .before in
     let s = l .before in
     let e = bit-is (c .before) in
-    let w = free-turn (t s) (k s) (inside s) (met s) (lives l) (rw e at (c .if2 .taken)) (walked s) in
+    let w = free-turn slotOf blank (t s) (k s) (inside s) (met s) (lives l) (rw e at (c .if2 .taken)) (walked s) in
     record { inside = search needs; walked = rw e w }
 
 unheld-before-requires : tie.Need-unheld-before-requires Inv-loop μ-loop
@@ -131,7 +132,7 @@ returns c =
     let u = c .before in
     let s = lived u .before in
     let held = sym (front-is u) ∙ not-true (u .unheld-before .result) (c .if3 .taken) in
-    sym (clash-turn (t s) (k s) (inside s) (met s) (lives (lived u)) held)
+    sym (clash-turn slotOf blank (t s) (k s) (inside s) (met s) (lives (lived u)) held)
 
 loop-less-2 : tie.Need-loop-less-2 Inv-loop μ-loop
 loop-less-2 c = search needs
@@ -143,7 +144,7 @@ loop-again-2 c =
     let e = bit-is (u .before .before) in
     let free = sym (front-is u) ∙ not-false (u .unheld-before .result) (c .if3 .left) in
     let was-met = rw e at (u .before .if2 .left) in
-    record { inside = search needs; walked = met-turn (t s) (k s) (inside s) (met s) (lives (lived u)) was-met free (walked s) }
+    record { inside = search needs; walked = met-turn slotOf blank (t s) (k s) (inside s) (met s) (lives (lived u)) was-met free (walked s) }
 
 loop-less-3 : tie.Need-loop-less-3 Inv-loop μ-loop
 loop-less-3 c = search needs
@@ -152,14 +153,14 @@ loop-again-3 : tie.Need-loop-again-3 Inv-loop μ-loop
 loop-again-3 c =
     let s = c .before in
     let dead = sym (dead-is s) ∙ not-false (s .same .result) (c .if1 .left) in
-    record { inside = search needs; walked = dead-turn (t s) (k s) (inside s) (met s) dead (walked s) }
+    record { inside = search needs; walked = dead-turn slotOf blank (t s) (k s) (inside s) (met s) dead (walked s) }
 
 returns-2 : tie.Need-returns-2 Inv-loop μ-loop
 returns-2 c =
     let s = c .before .before in
     let l = c .before .loop in
     let e : s .args .n ≡ l .k = omega arith in
-    sym (walk-over (s .args .t2) (l .k) (l .met) (rw e at (s .pre .1)) (l .inv .walked))
+    sym (walk-over slotOf unused refl (s .args .t2) (l .k) records (rw e at (s .pre .1)) (l .met) (l .inv .walked))
 
 pub ids-differ-spec : {M : Type 1} → statement M
 ids-differ-spec =

@@ -1,13 +1,13 @@
--- `panel::slot_ok` tells whether a slot is good, number by number. Assumes nothing.
+-- `panel::slot_ok` tells whether a slot is good: one chain of tests. Assumes nothing.
 use borrow.Author.Needs.{needs}
-use mathlib.Core.Path.{_≡_, sym, _∙_}
-use borrow.Author.Tests.{not-true, not-false}
+use mathlib.Core.Path.{_≡_}
 use mir.Syntax.{w32}
 use mir.Val.{SFits}
 use mir.ValLaws.{toZ-ofZ}
 use Rattle.model.specs.Table.{fits}
 use Rattle.model.specs.Panel.{idField}
-use Rattle.panel.proofs.Slots.{slot-1, slot-2, slot-3, slot-4}
+use Rattle.common.proofs.Signs.{join, last}
+use Rattle.panel.proofs.Slots.{fits-top}
 use Rattle.panel.proofs.slot_ok.Statement.{statement}
 use Rattle.panel.proofs.slot_ok.Tie as tie
 
@@ -22,23 +22,16 @@ id-ok-requires c κs = search needs
 
 returns : tie.Need-returns
 returns c =
-    let a = c .before .before .before .before .args in
-    sym (slot-1 (a .setup) (a .s) (sym (id-is (c .before)) ∙ not-true _ (c .if1 .taken)))
-
-returns-2 : tie.Need-returns-2
-returns-2 c =
-    let a = c .before .before .before .before .before .before .before .args in
-    sym (slot-2 (a .setup) (a .s) (c .if2 .taken))
-
-returns-3 : tie.Need-returns-3
-returns-3 c =
-    let a = c .before .before .before .before .before .before .before .before .before .before .args in
-    sym (slot-3 (a .setup) (a .s) (c .if3 .taken))
-
-returns-4 : tie.Need-returns-4
-returns-4 c =
-    let a = c .before .before .before .before .before .before .before .before .before .before .before .before .args in
-    sym (slot-4 (a .setup) (a .s) (sym (id-is (c .before .before .before .before .before .before .before .before .before)) ∙ not-false _ (c .before .before .before .before .before .before .before .before .if1 .left)) (c .before .before .before .before .before .if2 .left) (c .before .before .if3 .left))
+    let i = c .before .before .before .before .before .before .before .before .before .before in
+    let a = i .before .before .before .args in
+    let u = a .setup in
+    let s = a .s in
+    join (id-is i)
+    (join (fits-top (s .x) (u .x))
+    (join (fits-top (s .y) (u .y))
+    (join (fits-top (s .pressure) (u .pressure))
+    (join (fits-top (s .major) (u .major))
+    (last (fits-top (s .minor) (u .minor)))))))
 
 pub slot-ok-spec : {M : Type 1} → statement M
-slot-ok-spec = tie.close (tie.spec id-ok-requires returns returns-2 returns-3 returns-4)
+slot-ok-spec = tie.close (tie.spec id-ok-requires returns)

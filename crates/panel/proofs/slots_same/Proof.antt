@@ -1,12 +1,13 @@
--- `panel::slots_same` tells whether two slots are equal, number by number. Assumes nothing.
+-- `panel::slots_same` tells whether two slots are equal: one chain of tests. Assumes nothing.
 use borrow.Author.Needs.{needs}
-use mathlib.Core.Path.{_≡_, sym, _∙_}
-use borrow.Author.Tests.{not-true, not-false}
+use mathlib.Core.Path.{_≡_, sym, ap₂}
+use mathlib.Core.Bool.{Bool, _&&_}
+use lib.Dec.{eqb}
 use mir.Syntax.{w32}
 use mir.Val.{SFits}
 use mir.ValLaws.{toZ-ofZ}
 use Rattle.model.specs.Numbers.{eqZ}
-use Rattle.panel.proofs.Slots.{same-1, same-2, same-3, same-4}
+use Rattle.common.proofs.Signs.{and-true}
 use Rattle.panel.proofs.slots_same.Statement.{statement}
 use Rattle.panel.proofs.slots_same.Tie as tie
 
@@ -23,23 +24,11 @@ same-requires c κs = search needs
 
 returns : tie.Need-returns
 returns c =
-    let a = c .before .before .before .before .before .before .args in
-    sym (same-1 (a .a) (a .b) (sym (id-is (c .before)) ∙ not-true _ (c .if1 .taken)))
-
-returns-2 : tie.Need-returns-2
-returns-2 c =
-    let a = c .before .before .before .before .before .before .before .before .before .args in
-    sym (same-2 (a .a) (a .b) (c .if2 .taken))
-
-returns-3 : tie.Need-returns-3
-returns-3 c =
-    let a = c .before .before .before .before .before .before .before .before .before .before .before .before .args in
-    sym (same-3 (a .a) (a .b) (c .if3 .taken))
-
-returns-4 : tie.Need-returns-4
-returns-4 c =
-    let a = c .before .before .before .before .before .before .before .before .before .before .before .before .before .before .args in
-    sym (same-4 (a .a) (a .b) (sym (id-is (c .before .before .before .before .before .before .before .before .before)) ∙ not-false _ (c .before .before .before .before .before .before .before .before .if1 .left)) (c .before .before .before .before .before .if2 .left) (c .before .before .if3 .left))
+    let i = c .before .before .before .before .before .before .before .before .before .before in
+    let a = i .before .before .before .before .before .args .a in
+    let b = i .before .before .before .before .before .args .b in
+    let upTo : Bool → Bool → Bool = λ id minor. id && (eqb (a .x) (b .x) && (eqb (a .y) (b .y) && (eqb (a .pressure) (b .pressure) && (eqb (a .major) (b .major) && minor)))) in
+    ap₂ upTo (id-is i) (sym (and-true (eqb (a .minor) (b .minor))))
 
 pub slots-same-spec : {M : Type 1} → statement M
-slots-same-spec = tie.close (tie.spec same-requires returns returns-2 returns-3 returns-4)
+slots-same-spec = tie.close (tie.spec same-requires returns)

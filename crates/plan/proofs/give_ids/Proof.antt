@@ -1,6 +1,6 @@
 -- `plan::give_ids` makes the rest of a frame's table, and its counter. The first m of `taken` are the ids taken so far. Assumes nothing.
 use borrow.Author.Needs.{needs}
-use mathlib.Core.Path.{_≡_, refl, sym, ap, _∙_}
+use mathlib.Core.Path.{_≡_, refl, sym, ap, ap₂, _∙_}
 use mathlib.Core.Bool.{true, false, _&&_}
 use mathlib.Core.List.{List, [], _∷_, _++_, map-append}
 use Prim.Native.Nat.{ℕ, _<_, _≤_, _+_, _-_, _*_}
@@ -14,13 +14,13 @@ use mir.Val.{SFits}
 use mir.ValLaws.{toZ-ofZ}
 use Rattle.model.specs.Panel.{idCount, perSlot, records}
 use Rattle.model.specs.Numbers.{eqZ}
-use Rattle.model.specs.Table.{ids, unheld}
-use Rattle.model.specs.Frame.{Fate, fate, next, freeId, rowsFrom, slotAfter, takenAfter, counterAfter, Planned, after, planned}
+use Rattle.model.specs.Table.{numbersOf, ids, unheld}
+use Rattle.model.specs.Frame.{Fate, kindOf, fate, next, freeId, rowsFrom, slotAfter, takenAfter, counterAfter, Planned, after, planned}
 use Rattle.model.proofs.Tries.{Same, same-last, planned-same}
 use Rattle.panel.specs.declared.Slot.{Slot}
 use Rattle.common.specs.declared.TrackingId.{TrackingId}
-use Rattle.panel.specs.Seen.{slotOf, tableOf, blank}
-use Rattle.panel.proofs.Apart.{front-holds}
+use Rattle.panel.specs.Seen.{slotOf, tableOf, blank, unused}
+use Rattle.common.proofs.Apart.{front-holds}
 use Rattle.plan.specs.Row.{begun, contactOf, stayed, plainRow, plainRows, planFrom}
 use Rattle.plan.proofs.Turn as Turn
 use Rattle.plan.proofs.Turn.{begun-slot, stayed-slot, begun-taken, begun-counter, stayed-taken, stayed-counter}
@@ -49,9 +49,12 @@ abbrev μ-loop : tie.MeasureT-loop
 abbrev Row : Type 0
 Row = tie.After-begins Inv-loop μ-loop
 
--- The turn of the loop that it is in, the loop's locals before the turn, and where the call starts.
+-- Where the row is read, the turn of the loop that it is in, the loop's locals before the turn, and where the call starts.
+abbrev lent : Row → tie.After-row-at Inv-loop μ-loop
+lent b = b .before .before .before .before
+
 abbrev turn : Row → tie.In-loop Inv-loop μ-loop
-turn b = b .before .before .before .before
+turn b = lent b .before
 
 abbrev top : Row → tie.At-loop Inv-loop μ-loop
 top b = turn b .before
@@ -67,7 +70,7 @@ abbrev made : Begun → tie.After-contact Inv-loop μ-loop
 made c = c .before .before
 
 abbrev named : Begun → tie.After-id-of Inv-loop μ-loop
-named c = made c .before .before .before .before
+named c = made c .before
 
 abbrev chosen : Begun → tie.After-choose Inv-loop μ-loop
 chosen c = named c .before
@@ -80,7 +83,7 @@ abbrev Stayed : Type 0
 Stayed = tie.After-stays Inv-loop μ-loop
 
 abbrev staying : Stayed → tie.Else1 Inv-loop μ-loop
-staying c = c .before .before .before .before
+staying c = c .before
 
 -- ---- slot s and its row
 
@@ -96,8 +99,8 @@ s b = top b .loop .s
 abbrev t : Row → List Slot
 t b = top b .loop .t
 
-abbrev number : ℕ → Row → ℤ
-number i b = Turn.number (fr b) (s b) i
+abbrev row : Row → List ℤ
+row b = Turn.row (fr b) (s b)
 
 abbrev kind : Row → ℤ
 kind b = Turn.kind (fr b) (s b)
@@ -136,15 +139,16 @@ placed b = omega (arith, below b, known b .fewTaken, known b .places, start b .p
 
 begins-is : (b : Row) → b .begins .result ≡ begun (becomes b)
 begins-is b =
-    let f : SFits w32 (kind b) = search needs in
-    rw (toZ-ofZ w32 (kind b) f) at (b .begins .ensures)
+    let k = lent b .row-at .result .first in
+    let f : SFits w32 k = search needs in
+    b .begins .ensures ∙ ap (λ z. begun (fate z (was b .id .0))) (toZ-ofZ w32 k f ∙ ap kindOf (lent b .row-at .ensures))
 
 plain : (b : Row) → plainRow (Turn.row (fr b) (s b)) ≡ true
 plain b = Turn.plain-row (fr b) (s b) (n b) (below b) (known b .plain)
 
 -- What is left to make, once the slot is w, the ids taken are `more` and the counter is k.
 turned : (b : Row) (w : Slot) (more : List ℤ) (k : ℕ)
-    → slotOf w ≡ slotAfter (becomes b) (given b) (slotOf (was b)) (number 1 b ∷ number 2 b ∷ number 3 b ∷ [])
+    → slotOf w ≡ slotAfter (becomes b) (given b) (slotOf (was b)) (numbersOf (row b))
     → Same (takenAfter (becomes b) (given b) (taken b)) more → counterAfter (becomes b) (given b) (top b .loop .k) ≡ k
     → promised b ≡ planFrom more k (n b) (fr b) (set (t b) (s b) w) (s b + 1)
 turned b w more k e same count =
@@ -171,14 +175,13 @@ loop-holds c =
       whole = refl;
     }
 
-mul-i : tie.Need-mul-i Inv-loop μ-loop
-mul-i c = search needs
+mul-row-at : tie.Need-mul-row-at Inv-loop μ-loop
+mul-row-at c = search needs
 
-mul-kind : tie.Need-mul-kind Inv-loop μ-loop
-mul-kind c = search needs
-
-shared-slice-copy-out-kind : tie.Need-shared-slice-copy-out-kind Inv-loop μ-loop
-shared-slice-copy-out-kind c = search needs
+row-at-requires : tie.Need-row-at-requires Inv-loop μ-loop
+row-at-requires c κs =
+    let g = c .before .before .before .pre .0 in
+    omega (arith, c .loop-test .taken, g .size)
 
 mul-was : tie.Need-mul-was Inv-loop μ-loop
 mul-was c = search needs
@@ -207,33 +210,6 @@ choose-requires c κs =
 
 id-of-requires : tie.Need-id-of-requires Inv-loop μ-loop
 id-of-requires c κs = search needs
-
-add-contact : tie.Need-add-contact Inv-loop μ-loop
-add-contact c = search needs
-
-mul-contact : tie.Need-mul-contact Inv-loop μ-loop
-mul-contact c = search needs
-
-shared-slice-copy-out-contact : tie.Need-shared-slice-copy-out-contact Inv-loop μ-loop
-shared-slice-copy-out-contact c = search needs
-
-add-contact-2 : tie.Need-add-contact-2 Inv-loop μ-loop
-add-contact-2 c = search needs
-
-mul-contact-2 : tie.Need-mul-contact-2 Inv-loop μ-loop
-mul-contact-2 c = search needs
-
-shared-slice-copy-out-contact-2 : tie.Need-shared-slice-copy-out-contact-2 Inv-loop μ-loop
-shared-slice-copy-out-contact-2 c = search needs
-
-add-contact-3 : tie.Need-add-contact-3 Inv-loop μ-loop
-add-contact-3 c = search needs
-
-mul-contact-3 : tie.Need-mul-contact-3 Inv-loop μ-loop
-mul-contact-3 c = search needs
-
-shared-slice-copy-out-contact-3 : tie.Need-shared-slice-copy-out-contact-3 Inv-loop μ-loop
-shared-slice-copy-out-contact-3 c = search needs
 
 contact-requires : tie.Need-contact-requires Inv-loop μ-loop
 contact-requires c κs = search needs
@@ -266,25 +242,20 @@ loop-again : tie.Need-loop-again Inv-loop μ-loop
 loop-again c =
     let b = beginning c .before in
     let j = given b in
-    let f1 : SFits w32 (number 1 b) = search needs in
-    let f2 : SFits w32 (number 2 b) = search needs in
-    let f3 : SFits w32 (number 3 b) = search needs in
     let yes : begun (becomes b) ≡ true = sym (begins-is b) ∙ beginning c .if1 .taken in
     let id = named c .id-of in
     let ji : chosen c .choose .result ≡ j = chosen c .choose .ensures .1 in
     let fi : SFits w32 (id .result .0) = search needs in
     let v : id .result .0 ≡ pos j = ap (λ (x : TrackingId). x .0) (id .ensures) ∙ ap pos ji in
     let w = made c .contact .result in
-    let e : w ≡ contactOf (pos j) (number 1 b) (number 2 b) (number 3 b) =
-    (rw (toZ-ofZ w32 (number 1 b) f1, toZ-ofZ w32 (number 2 b) f2, toZ-ofZ w32 (number 3 b) f3) at (made c .contact .ensures))
-    ∙ ap (λ i. contactOf i (number 1 b) (number 2 b) (number 3 b)) v in
+    let e : w ≡ contactOf (pos j) (row b) = made c .contact .ensures ∙ ap₂ contactOf v (lent b .row-at .ensures) in
     let m = top b .loop .m in
     let more = take (m + 1) (set (top b .loop .taken) m (pos j)) in
     let last : more ≡ taken b ++ pos j ∷ [] = rw add-one (take-suc-set (top b .loop .taken) m (pos j) (placed b)) in
     let same : Same (takenAfter (becomes b) j (taken b)) more = rw (last, begun-taken (becomes b) j (taken b) yes) (same-last (pos j) (taken b)) in
     let count : counterAfter (becomes b) j (top b .loop .k) ≡ c .after .result =
     begun-counter (becomes b) j (top b .loop .k) yes ∙ sym (c .after .ensures ∙ ap next ji) in
-    let slot = ap slotOf e ∙ begun-slot (was b) (number 1 b) (number 2 b) (number 3 b) j (kind b) yes (plain b) in
+    let slot = ap slotOf e ∙ begun-slot (was b) (fr b) (perSlot * s b) j yes (plain b) in
     rw (toZ-ofZ w32 (id .result .0) fi, v) (record {
       inside = omega (arith, below b);
       fewTaken = omega (arith, known b .fewTaken);
@@ -294,33 +265,6 @@ loop-again c =
       plain = Turn.plain-rest (fr b) (s b) (n b) (below b) (known b .plain);
       whole = turned b w more (c .after .result) slot same count;
     })
-
-add-stays : tie.Need-add-stays Inv-loop μ-loop
-add-stays c = search needs
-
-mul-stays : tie.Need-mul-stays Inv-loop μ-loop
-mul-stays c = search needs
-
-shared-slice-copy-out-stays : tie.Need-shared-slice-copy-out-stays Inv-loop μ-loop
-shared-slice-copy-out-stays c = search needs
-
-add-stays-2 : tie.Need-add-stays-2 Inv-loop μ-loop
-add-stays-2 c = search needs
-
-mul-stays-2 : tie.Need-mul-stays-2 Inv-loop μ-loop
-mul-stays-2 c = search needs
-
-shared-slice-copy-out-stays-2 : tie.Need-shared-slice-copy-out-stays-2 Inv-loop μ-loop
-shared-slice-copy-out-stays-2 c = search needs
-
-add-stays-3 : tie.Need-add-stays-3 Inv-loop μ-loop
-add-stays-3 c = search needs
-
-mul-stays-3 : tie.Need-mul-stays-3 Inv-loop μ-loop
-mul-stays-3 c = search needs
-
-shared-slice-copy-out-stays-3 : tie.Need-shared-slice-copy-out-stays-3 Inv-loop μ-loop
-shared-slice-copy-out-stays-3 c = search needs
 
 stays-requires : tie.Need-stays-requires Inv-loop μ-loop
 stays-requires c κs = search needs
@@ -340,17 +284,12 @@ loop-less-2 c = search needs
 loop-again-2 : tie.Need-loop-again-2 Inv-loop μ-loop
 loop-again-2 c =
     let b = staying c .before in
-    let f0 : SFits w32 (kind b) = search needs in
-    let f1 : SFits w32 (number 1 b) = search needs in
-    let f2 : SFits w32 (number 2 b) = search needs in
-    let f3 : SFits w32 (number 3 b) = search needs in
     let no : begun (becomes b) ≡ false = sym (begins-is b) ∙ staying c .if1 .left in
     let w = c .stays .result in
-    let e : w ≡ stayed (eqZ (kind b) (pos 0)) (was b) (number 1 b) (number 2 b) (number 3 b) =
-    rw (toZ-ofZ w32 (kind b) f0, toZ-ofZ w32 (number 1 b) f1, toZ-ofZ w32 (number 2 b) f2, toZ-ofZ w32 (number 3 b) f3) at (c .stays .ensures) in
+    let e : w ≡ stayed (eqZ (kind b) (pos 0)) (was b) (row b) = c .stays .ensures ∙ ap (λ g. stayed (eqZ (kindOf g) (pos 0)) (was b) g) (lent b .row-at .ensures) in
     let same : Same (takenAfter (becomes b) (given b) (taken b)) (taken b) = rw (stayed-taken (becomes b) (given b) (taken b) no) (λ i. refl) in
     let count : counterAfter (becomes b) (given b) (top b .loop .k) ≡ top b .loop .k = stayed-counter (becomes b) (given b) (top b .loop .k) no in
-    let slot = ap slotOf e ∙ stayed-slot (was b) (number 1 b) (number 2 b) (number 3 b) (given b) (kind b) no (plain b) in
+    let slot = ap slotOf e ∙ stayed-slot (was b) (fr b) (perSlot * s b) (given b) no (plain b) in
     record {
       inside = omega (arith, below b);
       fewTaken = omega (arith, known b .fewTaken);
@@ -370,7 +309,7 @@ returns c =
     let rows = rowsFrom perSlot (a .n - a .from) (a .frame .now) (perSlot * a .from) in
     -- the ids that are gathered are those of the old table
     let same : Same (ids (tableOf (a .old))) old =
-    λ k. front-holds (a .old) (a .n) (b .before .pre .1) (pos k) refl ∙ ap (unheld (pos k)) (sym (b .ids-of .ensures)) in
+    λ k. front-holds slotOf unused refl (a .old) (a .n) records (b .before .pre .1) (pos k) refl ∙ ap (unheld (pos k)) (sym (b .ids-of .ensures)) in
     let gathered = planned-same (ids (tableOf (a .old))) old (a .counter) rows (tableOf (drop (a .from) (a .made))) same in
     sym (ap (after (tableOf (take (a .from) (a .made)))) gathered ∙ l .inv .whole
     ∙ Turn.no-row (take (l .m) (l .taken)) (l .k) (a .n) (a .frame .now) (l .t) (l .s) (c .loop-test .left))
@@ -383,9 +322,8 @@ give-ids-spec =
     μ-loop
     ids-of-requires
     loop-holds
-    mul-i
-    mul-kind
-    shared-slice-copy-out-kind
+    mul-row-at
+    row-at-requires
     mul-was
     array-copy-out-was
     begins-requires
@@ -393,15 +331,6 @@ give-ids-spec =
     slice-aggregate-choose
     choose-requires
     id-of-requires
-    add-contact
-    mul-contact
-    shared-slice-copy-out-contact
-    add-contact-2
-    mul-contact-2
-    shared-slice-copy-out-contact-2
-    add-contact-3
-    mul-contact-3
-    shared-slice-copy-out-contact-3
     contact-requires
     mul-t
     array-set-from-t
@@ -412,15 +341,6 @@ give-ids-spec =
     add-s
     loop-less
     loop-again
-    add-stays
-    mul-stays
-    shared-slice-copy-out-stays
-    add-stays-2
-    mul-stays-2
-    shared-slice-copy-out-stays-2
-    add-stays-3
-    mul-stays-3
-    shared-slice-copy-out-stays-3
     stays-requires
     mul-t-2
     array-set-from-t-2

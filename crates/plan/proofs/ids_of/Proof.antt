@@ -13,8 +13,8 @@ use mir.Val.{SFits}
 use mir.ValLaws.{toZ-ofZ}
 use Rattle.model.specs.Panel.{records}
 use Rattle.model.specs.Table.{ids}
-use Rattle.panel.specs.Seen.{tableOf, blank}
-use Rattle.panel.proofs.Apart.{more-ids}
+use Rattle.panel.specs.Seen.{slotOf, tableOf, blank}
+use Rattle.common.proofs.Apart.{more-ids}
 use Rattle.plan.proofs.ids_of.Statement.{statement}
 use Rattle.plan.proofs.ids_of.Tie as tie
 
@@ -54,7 +54,7 @@ loop-again c =
     let f : SFits w32 v = search needs in
     let lt : length t ≡ records = search needs in
     let room : l .i < length (l .l) = omega (arith, l .inv .1) in
-    let more = take-suc-set (l .l) (l .i) v room ∙ ap (λ (a : List ℤ). a ++ v ∷ []) (l .inv .2) ∙ sym (more-ids t (l .i) (omega arith)) in
+    let more = take-suc-set (l .l) (l .i) v room ∙ ap (λ (a : List ℤ). a ++ v ∷ []) (l .inv .2) ∙ sym (more-ids slotOf blank t (l .i) (omega arith)) in
     rw (toZ-ofZ w32 v f) (search needs, length-set (l .l) (l .i) v ∙ l .inv .1, rw add-one more)
 
 returns : tie.Need-returns Inv-loop μ-loop

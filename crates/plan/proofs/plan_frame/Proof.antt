@@ -8,16 +8,16 @@ use native.Mathlib.Omega.{arith}
 use lib.IntN.{ℤ, pos}
 use lib.ListN.{length, getD, set, length-set}
 use mir.Syntax.{w32}
-use mir.Val.{SFits}
+use mir.Val.{SFits, ofZ, toZ}
 use mir.ValLaws.{toZ-ofZ}
 use Rattle.model.specs.Panel.{idCount, perSlot, records}
 use Rattle.model.specs.Numbers.{eqZ}
 use Rattle.model.specs.Table.{ids, live}
-use Rattle.model.specs.Frame.{Fate, none, goesOn, begins, fate, freeId, rowsFrom, slotAfter, takenAfter, counterAfter, framed}
+use Rattle.model.specs.Frame.{Fate, kindOf, none, goesOn, begins, fate, freeId, rowsFrom, slotAfter, takenAfter, counterAfter, framed}
 use Rattle.model.proofs.Tries.{Same}
 use Rattle.panel.specs.declared.Slot.{Slot}
 use Rattle.panel.specs.Seen.{slotOf, tableOf, blank}
-use Rattle.plan.specs.Row.{begun, stayed, plainRow, plainRows, planFrom}
+use Rattle.plan.specs.Row.{begun, contactOf, stayed, plainRow, plainRows, planFrom}
 use Rattle.plan.proofs.Turn as Turn
 use Rattle.plan.proofs.Turn.{stayed-slot, stayed-taken, stayed-counter}
 use Rattle.plan.proofs.plan_frame.Statement.{statement}
@@ -42,8 +42,11 @@ abbrev μ-loop : tie.MeasureT-loop
 abbrev Row : Type 0
 Row = tie.After-same Inv-loop μ-loop
 
+abbrev lent : Row → tie.After-row-at Inv-loop μ-loop
+lent b = b .before .before .before
+
 abbrev turn : Row → tie.In-loop Inv-loop μ-loop
-turn b = b .before .before .before
+turn b = lent b .before
 
 abbrev top : Row → tie.At-loop Inv-loop μ-loop
 top b = turn b .before
@@ -53,11 +56,11 @@ start b = top b .before
 
 -- Where the kind is not 0, and it is known whether a contact begins.
 abbrev asked : tie.After-begins Inv-loop μ-loop → tie.Else1 Inv-loop μ-loop
-asked c = c .before .before
+asked c = c .before .before .before
 
 -- Where the contact goes on.
 abbrev going : tie.After-contact Inv-loop μ-loop → tie.Else2 Inv-loop μ-loop
-going c = c .before .before .before .before
+going c = c .before
 
 -- ---- slot s and its row
 
@@ -73,8 +76,8 @@ s b = top b .loop .s
 abbrev t : Row → List Slot
 t b = top b .loop .t
 
-abbrev number : ℕ → Row → ℤ
-number i b = Turn.number (fr b) (s b) i
+abbrev row : Row → List ℤ
+row b = Turn.row (fr b) (s b)
 
 abbrev kind : Row → ℤ
 kind b = Turn.kind (fr b) (s b)
@@ -101,26 +104,30 @@ below b = turn b .loop-test .taken
 inside : (b : Row) → s b < length (t b)
 inside b = omega (arith, below b, known b .slots, start b .pre .0)
 
+-- The row's kind, read through its bits.
+own-kind : (b : Row) → toZ w32 (ofZ w32 (lent b .row-at .result .first)) ≡ kind b
+own-kind b =
+    let k = lent b .row-at .result .first in
+    let f : SFits w32 k = search needs in
+    toZ-ofZ w32 k f ∙ ap kindOf (lent b .row-at .ensures)
+
 kind-read : (b : Row) → b .same .result ≡ eqZ (kind b) (pos 0)
-kind-read b =
-    let f : SFits w32 (kind b) = search needs in
-    rw (toZ-ofZ w32 (kind b) f) at (b .same .ensures)
+kind-read b = b .same .ensures ∙ ap (λ z. eqZ z (pos 0)) (own-kind b)
 
 begins-is : (c : tie.After-begins Inv-loop μ-loop) → c .begins .result ≡ begun (becomes (asked c .before))
 begins-is c =
     let b = asked c .before in
-    let f : SFits w32 (kind b) = search needs in
-    rw (toZ-ofZ w32 (kind b) f) at (c .begins .ensures)
+    c .begins .ensures ∙ ap (λ z. begun (fate z (was b .id .0))) (own-kind b)
 
 -- A slot in which no contact begins: the ids taken and the counter stay.
-turned : (b : Row) (w : Slot) → w ≡ stayed (eqZ (kind b) (pos 0)) (was b) (number 1 b) (number 2 b) (number 3 b) → begun (becomes b) ≡ false
+turned : (b : Row) (w : Slot) → w ≡ stayed (eqZ (kind b) (pos 0)) (was b) (row b) → begun (becomes b) ≡ false
     → Kept (n b) (start b .args .counter) (fr b) (start b .args .old) (set (t b) (s b) w) (s b + 1)
 turned b w e stays =
     let k = start b .args .counter in
     let same : Same (takenAfter (becomes b) (given b) (taken b)) (taken b) = rw (stayed-taken (becomes b) (given b) (taken b) stays) (λ i. refl) in
     let count = stayed-counter (becomes b) (given b) k stays in
     let plain = Turn.plain-row (fr b) (s b) (n b) (below b) (known b .plain) in
-    let slot = ap slotOf e ∙ stayed-slot (was b) (number 1 b) (number 2 b) (number 3 b) (given b) (kind b) stays plain in
+    let slot = ap slotOf e ∙ stayed-slot (was b) (fr b) (perSlot * s b) (given b) stays plain in
     record {
       inside = omega (arith, below b);
       slots = length-set (t b) (s b) w ∙ known b .slots;
@@ -137,14 +144,11 @@ loop-holds c =
     let lt : length (a .old) ≡ records = search needs in
     record { inside = omega arith; slots = lt; plain = rw z (c .pre .3); whole = rw z refl }
 
-mul-i : tie.Need-mul-i Inv-loop μ-loop
-mul-i c = search needs
+mul-row-at : tie.Need-mul-row-at Inv-loop μ-loop
+mul-row-at c = search needs
 
-mul-kind : tie.Need-mul-kind Inv-loop μ-loop
-mul-kind c = search needs
-
-shared-slice-copy-out-kind : tie.Need-shared-slice-copy-out-kind Inv-loop μ-loop
-shared-slice-copy-out-kind c = search needs
+row-at-requires : tie.Need-row-at-requires Inv-loop μ-loop
+row-at-requires c κs = omega (arith, c .loop-test .taken, c .before .before .pre .2)
 
 mul-was : tie.Need-mul-was Inv-loop μ-loop
 mul-was c = search needs
@@ -176,7 +180,7 @@ loop-again c =
     let is-0 : eqZ (kind b) (pos 0) ≡ true = sym (kind-read b) ∙ c .before .if1 .taken in
     let lives = live (was b .id .0) in
     let no = ap (λ z. begun (cond z none (cond (eqZ (kind b) (pos 2)) begins (cond lives goesOn begins)))) is-0 in
-    turned b (c .lift .result) (c .lift .ensures ∙ sym (ap (λ z. stayed z (was b) (number 1 b) (number 2 b) (number 3 b)) is-0)) no
+    turned b (c .lift .result) (c .lift .ensures ∙ sym (ap (λ z. stayed z (was b) (row b)) is-0)) no
 
 begins-requires : tie.Need-begins-requires Inv-loop μ-loop
 begins-requires c κs = search needs
@@ -191,33 +195,6 @@ returns : tie.Need-returns Inv-loop μ-loop
 returns c =
     let b = asked (c .before .before) .before in
     c .give-ids .ensures ∙ sym (known b .whole)
-
-add-contact : tie.Need-add-contact Inv-loop μ-loop
-add-contact c = search needs
-
-mul-contact : tie.Need-mul-contact Inv-loop μ-loop
-mul-contact c = search needs
-
-shared-slice-copy-out-contact : tie.Need-shared-slice-copy-out-contact Inv-loop μ-loop
-shared-slice-copy-out-contact c = search needs
-
-add-contact-2 : tie.Need-add-contact-2 Inv-loop μ-loop
-add-contact-2 c = search needs
-
-mul-contact-2 : tie.Need-mul-contact-2 Inv-loop μ-loop
-mul-contact-2 c = search needs
-
-shared-slice-copy-out-contact-2 : tie.Need-shared-slice-copy-out-contact-2 Inv-loop μ-loop
-shared-slice-copy-out-contact-2 c = search needs
-
-add-contact-3 : tie.Need-add-contact-3 Inv-loop μ-loop
-add-contact-3 c = search needs
-
-mul-contact-3 : tie.Need-mul-contact-3 Inv-loop μ-loop
-mul-contact-3 c = search needs
-
-shared-slice-copy-out-contact-3 : tie.Need-shared-slice-copy-out-contact-3 Inv-loop μ-loop
-shared-slice-copy-out-contact-3 c = search needs
 
 contact-requires : tie.Need-contact-requires Inv-loop μ-loop
 contact-requires c κs = search needs
@@ -238,13 +215,10 @@ loop-again-2 : tie.Need-loop-again-2 Inv-loop μ-loop
 loop-again-2 c =
     let e = going c in
     let b = asked (e .before) .before in
-    let f1 : SFits w32 (number 1 b) = search needs in
-    let f2 : SFits w32 (number 2 b) = search needs in
-    let f3 : SFits w32 (number 3 b) = search needs in
     let not-0 : eqZ (kind b) (pos 0) ≡ false = sym (kind-read b) ∙ asked (e .before) .if1 .left in
     let no : begun (becomes b) ≡ false = sym (begins-is (e .before)) ∙ e .if2 .left in
-    let w = rw (toZ-ofZ w32 (number 1 b) f1, toZ-ofZ w32 (number 2 b) f2, toZ-ofZ w32 (number 3 b) f3) at (c .contact .ensures) in
-    turned b (c .contact .result) (w ∙ sym (ap (λ z. stayed z (was b) (number 1 b) (number 2 b) (number 3 b)) not-0)) no
+    let w = c .contact .ensures ∙ ap (contactOf (was b .id .0)) (lent b .row-at .ensures) in
+    turned b (c .contact .result) (w ∙ sym (ap (λ z. stayed z (was b) (row b)) not-0)) no
 
 returns-2 : tie.Need-returns-2 Inv-loop μ-loop
 returns-2 c =
@@ -259,9 +233,8 @@ plan-frame-spec =
     Inv-loop
     μ-loop
     loop-holds
-    mul-i
-    mul-kind
-    shared-slice-copy-out-kind
+    mul-row-at
+    row-at-requires
     mul-was
     array-copy-out-was
     same-requires
@@ -274,15 +247,6 @@ plan-frame-spec =
     begins-requires
     give-ids-requires
     returns
-    add-contact
-    mul-contact
-    shared-slice-copy-out-contact
-    add-contact-2
-    mul-contact-2
-    shared-slice-copy-out-contact-2
-    add-contact-3
-    mul-contact-3
-    shared-slice-copy-out-contact-3
     contact-requires
     mul-t-2
     array-set-from-t-2

@@ -9,10 +9,12 @@ use Rattle.model.specs.Calls.{isStale}
 use Rattle.model.proofs.Answers.{load-bad-state, load-not-stale, load-bad-image, load-taken}
 use Rattle.common.specs.declared.Verdict.the-variants as W
 use Rattle.common.specs.Seen.{modeOf}
+use Rattle.common.proofs.Images.{image-length}
+use Rattle.panel.specs.Seen.{panelSeen}
 use Rattle.reader.specs.States.{seen}
 use Rattle.reader.specs.Seen.{loadedFrom}
 use Rattle.reader.proofs.Held.{state-back}
-use Rattle.reader.proofs.States.{good-small, image-length}
+use Rattle.reader.proofs.States.{good-small}
 use Rattle.reader.proofs.load.Statement.{statement}
 use Rattle.reader.proofs.load.Tie as tie
 
@@ -59,7 +61,7 @@ load-accepted-requires : tie.Need-load-accepted-requires
 load-accepted-requires c κs =
     let p = c .before .before .before .before .before in
     let a = p .before .before .args in
-    (good-small (a .state) (good p) .n, image-length (a .state .setup) (a .image .now) (a .current .0) (sym (c .before .image-ok .ensures) ∙ not-false (c .before .image-ok .result) (c .if3 .left)))
+    (good-small (a .state) (good p) .n, image-length (panelSeen (a .state .setup)) (a .image .now) (a .current .0) (sym (c .before .image-ok .ensures) ∙ not-false (c .before .image-ok .result) (c .if3 .left)))
 
 returns-4 : tie.Need-returns-4
 returns-4 c =

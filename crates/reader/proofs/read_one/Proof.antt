@@ -14,11 +14,11 @@ use Rattle.model.proofs.Answers.{step-bad-state, step-whole}
 use Rattle.panel.specs.Seen.{panelSeen}
 use Rattle.common.specs.declared.Verdict.the-variants as W
 use Rattle.records.specs.Seen.{eventOf}
+use Rattle.records.proofs.RoundTrip.{one-record}
 use Rattle.reader.specs.States.{seen, ranFrom}
 use Rattle.reader.specs.Seen.{refusedRun}
 use Rattle.reader.specs.States.{answered}
 use Rattle.reader.proofs.Held.{state-back}
-use Rattle.reader.proofs.States.{one-record}
 use Rattle.reader.proofs.read_one.Statement.{statement}
 use Rattle.reader.proofs.read_one.Tie as tie
 

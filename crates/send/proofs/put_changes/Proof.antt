@@ -1,117 +1,87 @@
--- `send::put_changes` writes a slot's changed numbers, two and two. Assumes nothing.
-use mathlib.Core.Path.{_≡_, sym, ap₂, _∙_}
+-- `send::put_changes` writes a slot's changed numbers: the contact's, and then its sizes. Assumes nothing.
+use mathlib.Core.Path.{_≡_}
 use mathlib.Core.List.{List, _++_}
 use Prim.Native.Nat.{ℕ, _≤_}
 use native.Mathlib.Omega.{arith}
 use lib.ListN.{length, length-append}
 use mir.Syntax.{w32}
 use mir.Val.{SFits}
-use mir.ValLaws.{toZ-ofZ}
-use Rattle.model.specs.Records.{bitsOf}
 use Rattle.model.specs.Sending.{changes}
-use Rattle.panel.specs.declared.Slot.{Slot}
 use Rattle.panel.specs.Seen.{slotOf}
 use Rattle.records.proofs.Over.{two-start, two-room, two-put, two-sum}
-use Rattle.send.specs.Sent.{bytesSent, numberBytes}
+use Rattle.send.specs.Sent.{bytesSent, contactBytes, sizeBytes}
 use Rattle.send.proofs.Parts.{changes-bytes}
 use borrow.Author.Needs.{needs}
 use Rattle.send.proofs.put_changes.Statement.{statement}
 use Rattle.send.proofs.put_changes.Tie as tie
 
--- Where the ids' bits are known.
-abbrev Bits : Type 0
-Bits = tie.After-bits-of2
+abbrev A : tie.Start → List ℕ
+A s = contactBytes (s .args .old) (s .args .new)
 
-abbrev start : Bits → tie.Start
-start c = c .before .before .before .before .before .before .before
+abbrev B : tie.Start → List ℕ
+B s = sizeBytes (s .args .old) (s .args .new)
 
-abbrev buf : Bits → List ℕ
-buf c = start c .args .b .now
+whole : (s : tie.Start) → bytesSent (changes 0 (slotOf (s .args .old)) (slotOf (s .args .new))) ≡ A s ++ B s
+whole s =
+    let f : SFits w32 (s .args .old .id .0) = search needs in
+    let g : SFits w32 (s .args .new .id .0) = search needs in
+    changes-bytes (s .args .old) (s .args .new) f g
 
-abbrev old : Bits → Slot
-old c = start c .args .old
+room : (s : tie.Start) → length (A s ++ B s) ≤ length (s .args .b .now)
+room s = rw (whole s) at (s .pre)
 
-abbrev new : Bits → Slot
-new c = start c .args .new
+put-contact-requires : tie.Need-put-contact-requires
+put-contact-requires c κs =
+    let s = c .before .before in
+    omega (arith, length-append (A s) (B s), room s)
 
--- The bytes of the first two numbers, and of the other two.
-abbrev A : Bits → List ℕ
-A c = numberBytes 0x39 (c .before .before .bits-of .result) (c .bits-of2 .result) ++ numberBytes 0x35 (old c .x) (new c .x)
-
-abbrev B : Bits → List ℕ
-B c = numberBytes 0x36 (old c .y) (new c .y) ++ numberBytes 0x3a (old c .pressure) (new c .pressure)
-
-whole : (c : Bits) → bytesSent (changes 0 (slotOf (old c)) (slotOf (new c))) ≡ A c ++ B c
-whole c =
-    let o = old c .id .0 in
-    let v = new c .id .0 in
-    let f : SFits w32 o = search needs in
-    let g : SFits w32 v = search needs in
-    let e : c .before .before .bits-of .result ≡ bitsOf o = rw (toZ-ofZ w32 o f) at (c .before .before .bits-of .ensures) in
-    let h : c .bits-of2 .result ≡ bitsOf v = rw (toZ-ofZ w32 v g) at (c .bits-of2 .ensures) in
-    changes-bytes (old c) (new c) f g ∙ sym (ap₂ (λ i j. (numberBytes 0x39 i j ++ numberBytes 0x35 (old c .x) (new c .x)) ++ B c) e h)
-
-room : (c : Bits) → length (A c ++ B c) ≤ length (buf c)
-room c = rw (whole c) at (start c .pre)
-
-bits-of-requires : tie.Need-bits-of-requires
-bits-of-requires c κs = search needs
-
-bits-of-requires-2 : tie.Need-bits-of-requires-2
-bits-of-requires-2 c κs = search needs
-
-put-two-requires : tie.Need-put-two-requires
-put-two-requires c κs = omega (arith, length-append (A (c .before)) (B (c .before)), room (c .before))
-
-sub-put-two : tie.Need-sub-put-two
-sub-put-two c =
-    let s = c .before .before .before .before in
-    let p = c .before .before .put-two in
-    two-start (A s) (B s) (buf s) (p .last .0) (p .result) (p .ensures .0) (p .ensures .1)
-
-part-put-two-start : tie.Need-part-put-two-start
-part-put-two-start c = sub-put-two c
-
-part-put-two-end : tie.Need-part-put-two-end
-part-put-two-end c = search needs
-
-put-two-requires-2 : tie.Need-put-two-requires-2
-put-two-requires-2 c κs =
+sub-put-sizes : tie.Need-sub-put-sizes
+sub-put-sizes c =
     let s = c .before .before .before .before .before in
-    let p = c .before .before .before .put-two in
-    two-room (A s) (B s) (buf s) (p .last .0) (p .result) (p .ensures .0) (p .ensures .1) (room s)
+    let p = c .before .before .put-contact in
+    two-start (A s) (B s) (s .args .b .now) (p .last .0) (p .result) (p .ensures .0) (p .ensures .1)
+
+part-put-sizes-start : tie.Need-part-put-sizes-start
+part-put-sizes-start c = sub-put-sizes c
+
+part-put-sizes-end : tie.Need-part-put-sizes-end
+part-put-sizes-end c = search needs
+
+put-sizes-requires : tie.Need-put-sizes-requires
+put-sizes-requires c κs =
+    let s = c .before .before .before .before .before .before in
+    let p = c .before .before .before .put-contact in
+    two-room (A s) (B s) (s .args .b .now) (p .last .0) (p .result) (p .ensures .0) (p .ensures .1) (room s)
 
 add-result : tie.Need-add-result
 add-result c =
-    let s = c .before .before .before .before .before .before .before .before in
-    let p = c .before .before .before .before .before .before .put-two in
-    let q = c .before .before .put-two2 in
-    omega (arith, two-sum (A s) (B s) (p .result) (q .result) (p .ensures .0) (q .ensures .0), room s, start s .good)
+    let s = c .before .before .before .before .before .before .before .before .before in
+    let p = c .before .before .before .before .before .before .put-contact in
+    let q = c .before .before .put-sizes in
+    omega (arith, two-sum (A s) (B s) (p .result) (q .result) (p .ensures .0) (q .ensures .0), room s, s .good)
 
 same-length : tie.Need-same-length
 same-length c = search needs
 
 returns : tie.Need-returns
 returns c =
-    let s = c .before .before .before .before .before .before .before .before in
-    let p = c .before .before .before .before .before .before .put-two in
-    let q = c .before .before .put-two2 in
+    let s = c .before .before .before .before .before .before .before .before .before in
+    let p = c .before .before .before .before .before .before .put-contact in
+    let q = c .before .before .put-sizes in
     rw (whole s) (
       two-sum (A s) (B s) (p .result) (q .result) (p .ensures .0) (q .ensures .0),
-      two-put (A s) (B s) (buf s) (p .last .0) (p .result) (p .ensures .0) (p .ensures .1) (q .last .0) (q .ensures .1),
+      two-put (A s) (B s) (s .args .b .now) (p .last .0) (p .result) (p .ensures .0) (p .ensures .1) (q .last .0) (q .ensures .1),
     )
 
 pub put-changes-spec : {M : Type 1} → statement M
 put-changes-spec =
     tie.close
     (tie.spec
-    bits-of-requires
-    bits-of-requires-2
-    put-two-requires
-    sub-put-two
-    part-put-two-start
-    part-put-two-end
-    put-two-requires-2
+    put-contact-requires
+    sub-put-sizes
+    part-put-sizes-start
+    part-put-sizes-end
+    put-sizes-requires
     add-result
     same-length
     returns)

@@ -20,6 +20,12 @@ unlike-requires-2 c κs = search needs
 unlike-requires-3 : tie.Need-unlike-requires-3
 unlike-requires-3 c κs = search needs
 
+unlike-requires-4 : tie.Need-unlike-requires-4
+unlike-requires-4 c κs = search needs
+
+unlike-requires-5 : tie.Need-unlike-requires-5
+unlike-requires-5 c κs = search needs
+
 add-result : tie.Need-add-result
 add-result c = search needs
 
@@ -29,15 +35,27 @@ add-result-2 c = search needs
 add-result-3 : tie.Need-add-result-3
 add-result-3 c = search needs
 
+add-result-4 : tie.Need-add-result-4
+add-result-4 c = search needs
+
+add-result-5 : tie.Need-add-result-5
+add-result-5 c = search needs
+
 returns : tie.Need-returns
 returns c =
-    let a = c .before .before .before .before .before .before .args in
-    let e : c .before .before .before .unlike-id .result ≡ oneUnless (eqZ (a .a .id .0) (a .b .id .0)) = c .before .before .before .unlike-id .ensures .1 in
-    let x : c .before .before .unlike .result ≡ oneUnless (eqb (a .a .x) (a .b .x)) = c .before .before .unlike .ensures .1 in
-    let y : c .before .unlike2 .result ≡ oneUnless (eqb (a .a .y) (a .b .y)) = c .before .unlike2 .ensures .1 in
-    let p : c .unlike3 .result ≡ oneUnless (eqb (a .a .pressure) (a .b .pressure)) = c .unlike3 .ensures .1 in
-    let i = c .before .before .before .unlike-id .ensures .0 in
-    (omega (arith, i, c .before .before .unlike .ensures .0, c .before .unlike2 .ensures .0, c .unlike3 .ensures .0), omega arith)
+    let four = c .before in
+    let three = four .before in
+    let two = three .before in
+    let one = two .before in
+    let id = one .before in
+    let a = id .before .before .before .args in
+    let e : id .unlike-id .result ≡ oneUnless (eqZ (a .a .id .0) (a .b .id .0)) = id .unlike-id .ensures .1 in
+    let x : one .unlike .result ≡ oneUnless (eqb (a .a .x) (a .b .x)) = one .unlike .ensures .1 in
+    let y : two .unlike2 .result ≡ oneUnless (eqb (a .a .y) (a .b .y)) = two .unlike2 .ensures .1 in
+    let p : three .unlike3 .result ≡ oneUnless (eqb (a .a .pressure) (a .b .pressure)) = three .unlike3 .ensures .1 in
+    let major : four .unlike4 .result ≡ oneUnless (eqb (a .a .major) (a .b .major)) = four .unlike4 .ensures .1 in
+    let minor : c .unlike5 .result ≡ oneUnless (eqb (a .a .minor) (a .b .minor)) = c .unlike5 .ensures .1 in
+    (omega (arith, id .unlike-id .ensures .0, one .unlike .ensures .0, two .unlike2 .ensures .0, three .unlike3 .ensures .0, four .unlike4 .ensures .0, c .unlike5 .ensures .0), omega arith)
 
 pub differ-spec : {M : Type 1} → statement M
 differ-spec =
@@ -47,7 +65,11 @@ differ-spec =
     unlike-requires
     unlike-requires-2
     unlike-requires-3
+    unlike-requires-4
+    unlike-requires-5
     add-result
     add-result-2
     add-result-3
+    add-result-4
+    add-result-5
     returns)

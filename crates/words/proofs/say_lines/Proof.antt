@@ -2,15 +2,16 @@
 use Prim.Native.Nat.{_≤_, _-_}
 use mathlib.Core.Path.{_≡_}
 use lib.ListN.{length}
+use Rattle.model.specs.Panel.{records}
 use borrow.Author.Needs.{needs}
 use Rattle.words.proofs.say_lines.Statement.{statement}
 use Rattle.words.proofs.say_lines.Tie as tie
 
 abbrev Inv-loop : tie.InvT-loop
-Inv-loop page₀ n table o₀ k₀ page o k = (k ≤ 16) × (length page ≡ length page₀)
+Inv-loop page₀ n table o₀ k₀ page o k = (k ≤ records) × (length page ≡ length page₀)
 
 abbrev μ-loop : tie.MeasureT-loop
-μ-loop page₀ n table o₀ k₀ page o k = 16 - k
+μ-loop page₀ n table o₀ k₀ page o k = records - k
 
 loop-holds : tie.Need-loop-holds Inv-loop μ-loop
 loop-holds c = search needs

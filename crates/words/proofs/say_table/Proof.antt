@@ -2,15 +2,16 @@
 use Prim.Native.Nat.{_≤_, _-_}
 use mathlib.Core.Path.{_≡_}
 use lib.ListN.{length}
+use Rattle.model.specs.Panel.{records}
 use borrow.Author.Needs.{needs}
 use Rattle.words.proofs.say_table.Statement.{statement}
 use Rattle.words.proofs.say_table.Tie as tie
 
 abbrev Inv-loop : tie.InvT-loop
-Inv-loop page₀ between table o₀ at₀ page o at = (at ≤ 16) × (length page ≡ length page₀)
+Inv-loop page₀ between table o₀ at₀ page o at = (at ≤ records) × (length page ≡ length page₀)
 
 abbrev μ-loop : tie.MeasureT-loop
-μ-loop page₀ between table o₀ at₀ page o at = 16 - at
+μ-loop page₀ between table o₀ at₀ page o at = records - at
 
 loop-holds : tie.Need-loop-holds Inv-loop μ-loop
 loop-holds c = search needs

@@ -1,10 +1,10 @@
 -- `write_frames::send_frames` lends no byte past those lent to it. The loop has sent the frames before `at`. Assumes nothing.
-use Prim.Native.Nat.{ℕ, _≤_, _-_}
+use Prim.Native.Nat.{_*_, ℕ, _≤_, _-_}
 use mathlib.Core.Path.{_≡_, sym, subst}
 use mathlib.Core.List.{List}
 use lib.IntN.{ℤ}
-use Rattle.model.specs.Panel.{base}
-use Rattle.model.specs.Calls.{writeCall}
+use Rattle.model.specs.Panel.{base, perSlot, records}
+use Rattle.model.specs.Calls.{mostEvents, writeCall}
 use Rattle.model.proofs.Instances.{base-good}
 use Rattle.model.proofs.Limits.{limits}
 use Rattle.writer.specs.declared.WriterState.{WriterState}
@@ -18,7 +18,7 @@ use Rattle.write_frames.proofs.send_frames.Tie as tie
 
 abbrev Inv-loop : tie.InvT-loop
 Inv-loop page₀ bytes want numbers₀ state₀ out₀ frame₀ at₀ page numbers state out frame at =
-    (at ≤ length bytes) × (1 ≤ want) × (length page ≡ length page₀) × (length numbers ≡ 64)
+    (at ≤ length bytes) × (1 ≤ want) × (length page ≡ length page₀) × (length numbers ≡ perSlot * records)
 
 abbrev μ-loop : tie.MeasureT-loop
 μ-loop page₀ bytes want numbers₀ state₀ out₀ frame₀ at₀ page numbers state out frame at = length bytes - at
@@ -75,9 +75,9 @@ slice-aggregate-write c = search needs
 write-requires : tie.Need-write-requires Inv-loop μ-loop
 write-requires c κs = search needs
 
--- No answer of `write` has more than 80 events.
-few : (s : WriterState) (f : List ℤ) (at n : ℕ) (r : Written) → r ≡ writtenFrom (writeCall base (seen s) f at n) → r .count ≤ 80
-few s f at n r e = subst (λ (w : Written). w .count ≤ 80) (sym e) (limits base (seen s) f at n base-good .0)
+-- No answer of `write` has more events than a frame may have.
+few : (s : WriterState) (f : List ℤ) (at n : ℕ) (r : Written) → r ≡ writtenFrom (writeCall base (seen s) f at n) → r .count ≤ mostEvents base
+few s f at n r e = subst (λ (w : Written). w .count ≤ mostEvents base) (sym e) (limits base (seen s) f at n base-good .0)
 
 answered-requires : tie.Need-answered-requires Inv-loop μ-loop
 answered-requires c κs =

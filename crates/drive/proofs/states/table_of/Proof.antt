@@ -1,14 +1,15 @@
 -- `table_of` stays inside the table. The loop has made k slots. Assumes nothing.
 use Prim.Native.Nat.{_≤_, _-_}
+use Rattle.model.specs.Panel.{records}
 use borrow.Author.Needs.{needs}
 use Rattle.drive.proofs.states.table_of.Statement.{statement}
 use Rattle.drive.proofs.states.table_of.Tie as tie
 
 abbrev Inv-loop : tie.InvT-loop
-Inv-loop ns from t₀ k₀ t k = k ≤ 16
+Inv-loop ns from t₀ k₀ t k = k ≤ records
 
 abbrev μ-loop : tie.MeasureT-loop
-μ-loop ns from t₀ k₀ t k = 16 - k
+μ-loop ns from t₀ k₀ t k = records - k
 
 zero-table-requires : tie.Need-zero-table-requires Inv-loop μ-loop
 zero-table-requires c κs = search needs

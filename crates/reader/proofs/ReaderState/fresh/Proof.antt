@@ -18,7 +18,7 @@ no-state-requires c κs = search needs
 returns : tie.Need-returns
 returns c =
     let a = c .before .before .before .args in
-    let u = setupOf (given (a .n) (a .x) (a .y) (a .pressure)) in
+    let u = setupOf (given (a .n) (a .x) (a .y) (a .pressure) (a .major) (a .minor)) in
     rw (c .no-state .ensures) (sym (ap freshFrom (reader-not-made base u (sym (c .before .before .setup-ok .ensures) ∙ not-true (c .before .before .setup-ok .result) (c .before .if1 .taken)))))
 
 unused-table-requires : tie.Need-unused-table-requires
@@ -27,7 +27,7 @@ unused-table-requires c κs = search needs
 returns-2 : tie.Need-returns-2
 returns-2 c =
     let a = c .before .before .before .args in
-    let u = setupOf (given (a .n) (a .x) (a .y) (a .pressure)) in
+    let u = setupOf (given (a .n) (a .x) (a .y) (a .pressure) (a .major) (a .minor)) in
     rw (c .unused-table .ensures) (sym (ap freshFrom (reader-made base u (sym (c .before .before .setup-ok .ensures) ∙ not-false (c .before .before .setup-ok .result) (c .before .if1 .left)))))
 
 pub fresh-spec : {M : Type 1} → statement M

@@ -19,7 +19,7 @@ returns : tie.Need-returns
 unfolding freshWriterCall
 returns c =
     let a = c .before .before .before .args in
-    let e : setupGood base (setupOf (record { n = a .n; x = a .x; y = a .y; pressure = a .pressure })) ≡ false = sym (c .before .before .setup-ok .ensures) ∙ not-true (c .before .before .setup-ok .result) (c .before .if1 .taken) in
+    let e : setupGood base (setupOf (record { n = a .n; x = a .x; y = a .y; pressure = a .pressure; major = a .major; minor = a .minor })) ≡ false = sym (c .before .before .setup-ok .ensures) ∙ not-true (c .before .before .setup-ok .result) (c .before .if1 .taken) in
     rw (e, c .zero-table .ensures)
 
 unused-table-requires : tie.Need-unused-table-requires
@@ -29,7 +29,7 @@ returns-2 : tie.Need-returns-2
 unfolding freshWriterCall
 returns-2 c =
     let a = c .before .before .before .args in
-    let e : setupGood base (setupOf (record { n = a .n; x = a .x; y = a .y; pressure = a .pressure })) ≡ true = sym (c .before .before .setup-ok .ensures) ∙ not-false (c .before .before .setup-ok .result) (c .before .if1 .left) in
+    let e : setupGood base (setupOf (record { n = a .n; x = a .x; y = a .y; pressure = a .pressure; major = a .major; minor = a .minor })) ≡ true = sym (c .before .before .setup-ok .ensures) ∙ not-false (c .before .before .setup-ok .result) (c .before .if1 .left) in
     rw (e, c .unused-table .ensures)
 
 pub fresh-spec : {M : Type 1} → statement M

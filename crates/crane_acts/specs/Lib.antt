@@ -1,0 +1,2 @@
+-- The cranes' acts as the model's.
+pub mod Seen

@@ -1,0 +1,1 @@
+-- The definitions of the cranes' image: none, its contracts cite the model's.

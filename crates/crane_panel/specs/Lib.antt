@@ -1,0 +1,2 @@
+-- How the cranes' types are seen by the model.
+pub mod Seen

@@ -1,0 +1,234 @@
+// The cranes' panel: sixteen slots of four numbers, for good, and the tests of a setup, a slot and a table. The cranes' reader stands on it.
+ghost use mathlib.Core.Path.{_≡_};
+ghost use mathlib.Core.List.{_∷_, []};
+ghost use Prim.Native.Nat.{_≤_};
+ghost use lib.ListN.{take, drop};
+ghost use Rattle.model.specs.Panel.{crane, setupGood, craneRecords};
+ghost use Rattle.model.specs.Table.{ids, unheld, goodSlot, eqSlot, eqTable, idsDiffer as idsApart, goodRecords};
+ghost use Rattle.crane_panel.specs.Seen.{slotOf, tableOf, setupOf, fieldsOf, axesOf, unused, unusedAll, sameFrom, zeros};
+use common::TrackingId;
+
+// How many slot records a table holds.
+pub const RECORDS: usize = 16;
+
+// How many numbers a slot has.
+pub const PER_SLOT: usize = 4;
+
+// The most that a setup may give as the largest x and y, and as the largest pressure.
+pub const MOST_POSITION: usize = 32767;
+
+pub const MOST_PRESSURE: usize = 255;
+
+// The numbers of a slot are unsigned but for the id: only good numbers are ever held, and a test against a largest value is one comparison.
+pub struct Slot {
+    pub id: TrackingId,
+    pub x: u32,
+    pub y: u32,
+    pub pressure: u32,
+}
+
+pub struct Setup {
+    pub n: usize,
+    pub x: u32,
+    pub y: u32,
+    pub pressure: u32,
+}
+
+impl Slot {
+    pub fn unused() -> Self
+        ensures { λ r. ⌜ r ≡ unused ⌝ }
+    {
+        Slot {
+            id: TrackingId(TrackingId::UNUSED),
+            x: 0,
+            y: 0,
+            pressure: 0,
+        }
+    }
+}
+
+pub fn unused_table() -> [Slot; RECORDS]
+    ensures { λ r. ⌜ r ≡ unusedAll ⌝ }
+{
+    let u = Slot::unused();
+    [u; RECORDS]
+}
+
+// The table in the place of a state that is not made: ids are 0 too.
+pub fn zero_table() -> [Slot; RECORDS]
+    ensures { λ r. ⌜ r ≡ zeros ⌝ }
+{
+    let z = Slot {
+        id: TrackingId(0),
+        x: 0,
+        y: 0,
+        pressure: 0,
+    };
+    [z; RECORDS]
+}
+
+pub fn setup_ok(s: Setup) -> bool
+    ensures { λ r. ⌜ r ≡ setupGood crane (setupOf s) ⌝ }
+{
+    if !common::between(s.n, RECORDS) {
+        return false;
+    }
+    if !common::between(s.x as usize, MOST_POSITION) {
+        return false;
+    }
+    if !common::between(s.y as usize, MOST_POSITION) {
+        return false;
+    }
+    common::between(s.pressure as usize, MOST_PRESSURE)
+}
+
+pub fn numbers_ok(setup: Setup, x: i32, y: i32, pressure: i32) -> bool
+    ensures { λ r. ⌜ r ≡ goodSlot (axesOf setup) (x ∷ y ∷ pressure ∷ []) ⌝ }
+{
+    if !common::within(x, setup.x) {
+        return false;
+    }
+    if !common::within(y, setup.y) {
+        return false;
+    }
+    common::within(pressure, setup.pressure)
+}
+
+fn slot_ok(setup: Setup, s: Slot) -> bool
+    ensures { λ r. ⌜ r ≡ goodSlot (fieldsOf setup) (slotOf s) ⌝ }
+{
+    let id = s.id;
+    if !common::id_ok(id.0) {
+        return false;
+    }
+    if setup.x < s.x {
+        return false;
+    }
+    if setup.y < s.y {
+        return false;
+    }
+    s.pressure <= setup.pressure
+}
+
+fn slots_same(a: Slot, b: Slot) -> bool
+    ensures { λ r. ⌜ r ≡ eqSlot (slotOf a) (slotOf b) ⌝ }
+{
+    let p = a.id;
+    let q = b.id;
+    if !common::same(p.0, q.0) {
+        return false;
+    }
+    if a.x != b.x {
+        return false;
+    }
+    if a.y != b.y {
+        return false;
+    }
+    a.pressure == b.pressure
+}
+
+fn slot_unused(s: Slot) -> bool
+    ensures { λ r. ⌜ r ≡ eqSlot (slotOf s) (slotOf unused) ⌝ }
+{
+    slots_same(s, Slot::unused())
+}
+
+// Whether the panel's slots are good, whatever stands past them.
+fn slots_ok(setup: Setup, t: [Slot; RECORDS]) -> bool
+    requires { ⌜ setup .n ≤ craneRecords ⌝ }
+    ensures { λ r. ⌜ r ≡ goodRecords (fieldsOf setup) (setup .n) (tableOf (take (setup .n) t)) ⌝ }
+{
+    let n = setup.n;
+    let mut i: usize = 0;
+    while i < n {
+        if !slot_ok(setup, t[i]) {
+            return false;
+        }
+        i += 1;
+    }
+    true
+}
+
+fn rest_unused(n: usize, t: [Slot; RECORDS]) -> bool
+    ensures { λ r. ⌜ r ≡ eqTable (tableOf (drop n t)) (tableOf (drop n unusedAll)) ⌝ }
+{
+    let mut i = n;
+    while i < RECORDS {
+        if !slot_unused(t[i]) {
+            return false;
+        }
+        i += 1;
+    }
+    true
+}
+
+// Whether the first n records are good slots, and the others unused. A panel of all records has no others, and its table is not copied for them.
+pub fn table_ok(setup: Setup, t: [Slot; RECORDS]) -> bool
+    requires { ⌜ setup .n ≤ craneRecords ⌝ }
+    ensures { λ r. ⌜ r ≡ goodRecords (fieldsOf setup) (setup .n) (tableOf t) ⌝ }
+{
+    if !slots_ok(setup, t) {
+        return false;
+    }
+    if setup.n == RECORDS {
+        return true;
+    }
+    rest_unused(setup.n, t)
+}
+
+fn unheld_before(t: [Slot; RECORDS], k: usize, v: i32) -> bool
+    requires { ⌜ k ≤ craneRecords ⌝ }
+    ensures { λ r. ⌜ r ≡ unheld v (ids (tableOf (take k t))) ⌝ }
+{
+    let mut j: usize = 0;
+    while j < k {
+        let o = t[j];
+        let p = o.id;
+        if common::same(v, p.0) {
+            return false;
+        }
+        j += 1;
+    }
+    true
+}
+
+// Whether all live ids differ, of which the first n slots alone may have one. An id falls on one of 64 bits: only one that falls on a bit again is compared with those before it.
+pub fn ids_differ(n: usize, t: [Slot; RECORDS]) -> bool
+    requires { ⌜ (n ≤ craneRecords) × sameFrom n t unusedAll ⌝ }
+    ensures { λ r. ⌜ r ≡ idsApart (tableOf t) ⌝ }
+{
+    let mut met: u64 = 0;
+    let mut k: usize = 0;
+    while k < n {
+        let s = k;
+        let c = t[s];
+        let q = c.id;
+        let v = q.0;
+        k += 1;
+        if !common::same(v, -1) {
+            let bit = 1u64 << (common::nat_of(v) % 64);
+            if met & bit == 0 {
+                met = met | bit;
+            } else {
+                if !unheld_before(t, s, v) {
+                    return false;
+                }
+            }
+        }
+    }
+    true
+}
+
+pub fn tables_same(n: usize, a: [Slot; RECORDS], b: [Slot; RECORDS]) -> bool
+    requires { ⌜ (n ≤ craneRecords) × sameFrom n a b ⌝ }
+    ensures { λ r. ⌜ r ≡ eqTable (tableOf a) (tableOf b) ⌝ }
+{
+    let mut s: usize = 0;
+    while s < n {
+        if !slots_same(a[s], b[s]) {
+            return false;
+        }
+        s += 1;
+    }
+    true
+}

@@ -1,0 +1,3 @@
+-- The answers of the cranes' reader as the model's.
+pub mod States
+pub mod Seen

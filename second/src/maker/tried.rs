@@ -1,0 +1,152 @@
+//! What a script tries, by the names in its comment lines. A tally that misses one of them is a script that was too short, or a hole in the maker.
+
+/// What a comment begins with where the call is one of a crane's reader.
+pub const CRANE: &str = "crane";
+
+/// What is tried with the panel's reader, and with a crane's too.
+const READER: &[&str] = &[
+    "setup: good",
+    "setup: n",
+    "setup: largest x",
+    "setup: largest y",
+    "setup: largest pressure",
+    "state: reached by calls",
+    "state: any well-formed one",
+    "broken: n",
+    "broken: n cuts off a record in use",
+    "broken: largest x",
+    "broken: largest y",
+    "broken: largest pressure",
+    "broken: largest below a number in use",
+    "broken: current slot",
+    "broken: id in the shown table",
+    "broken: id in the pending table",
+    "broken: number in the shown table",
+    "broken: number in the pending table",
+    "broken: id repeated in the shown table",
+    "broken: record past n in the shown table",
+    "broken: record past n in the pending table",
+    "broken: pending differs while lost",
+    "allowed: id repeated in the pending table",
+    "run: no records",
+    "run: calm",
+    "run: rough",
+    "run: long",
+    "run: many alike",
+    "run: skipped before a loss",
+    "run: unknown behind a loss alone",
+    "run: what a writer sends",
+    "run: ragged",
+    "one: calm",
+    "one: rough",
+    "record: unknown type",
+    "record: unknown code of type 0",
+    "record: unknown code of type 3",
+    "record: SYN_MT_REPORT",
+    "load: while not stale",
+    "load: good image",
+    "load: length",
+    "load: an image for the other reader",
+    "load: id",
+    "load: number",
+    "load: number of an unused slot",
+    "load: repeated id",
+    "load: current slot",
+    "ask: below n",
+    "ask: n or more",
+    "ask: id 0 or 65,535",
+    "good: a well-formed one",
+    "good: a broken one",
+];
+
+/// What is tried besides: with the panel's reader alone, with writers and pods, and in lines.
+const OTHERS: &[&str] = &[
+    "setup: largest major",
+    "setup: largest minor",
+    "broken: largest major",
+    "broken: largest minor",
+    "broken: counter",
+    "broken: id in the writer's table",
+    "broken: number in the writer's table",
+    "broken: id repeated in the writer's table",
+    "broken: record past n in the writer's table",
+    "frame: equal",
+    "frame: one number changed",
+    "frame: one slot's kind changed",
+    "frame: several slots changed",
+    "frame: touch sizes alone changed",
+    "frame: landings with the sizes that were there",
+    "frame: every number changed",
+    "frame: all begin",
+    "frame: all lift",
+    "frame: any good one",
+    "frame: junk in slots of kind 0",
+    "frame: wrong length",
+    "frame: four numbers a slot",
+    "frame: bad kind",
+    "frame: bad number",
+    "frame: kind 0, pressure 0",
+    "frame: kind 0, pressure 1",
+    "frame: kind 1, pressure 0",
+    "frame: kind 1, pressure 1",
+    "frame: kind 2, pressure 0",
+    "frame: kind 2, pressure 1",
+    "ids: near the wrap",
+    "ids: far apart",
+    "ids: a block without a gap",
+    "room: exact",
+    "room: to spare",
+    "room: one byte less",
+    "room: less",
+    "room: at the end",
+    "room: past the end",
+    "room: position near 2^64",
+    "pod: waits",
+    "pod: does not wait",
+    "pod: several bytes",
+    "pod: first byte",
+    "pod: F0 or near it while it waits",
+    "pod: F0 or near it, not waited for",
+    "pod: byte inside a report",
+    "pod: F0 inside a report",
+    "pod: held too many",
+    "pod: held as many as the report is long",
+    "pod: first byte opens nothing",
+    "pod: unused place not 0",
+    "line: no such word",
+    "line: a word that is nearly one",
+    "line: too few numbers",
+    "line: too many numbers",
+    "line: a number that its type cannot hold",
+    "line: a pod that waits by neither 0 nor 1",
+    "line: not a number",
+    "line: spaces alone",
+    "line: too long",
+    "line: one byte too many",
+    "line: one number too many",
+    "form: as many bytes as may be",
+    "form: as many numbers as may be",
+    "form: spaces and zeros too many",
+];
+
+/// What is tried with a crane's reader alone.
+const CRANES: &[&str] = &["record: a touch size"];
+
+/// Whether a comment may say so.
+pub(super) fn is_tried(tag: &str) -> bool {
+    [READER, OTHERS, CRANES].iter().any(|list| list.contains(&tag))
+}
+
+/// Each of them, in order; what is tried with a crane's reader has its word in front.
+pub fn all() -> Vec<String> {
+    let plain = READER.iter().chain(OTHERS).map(|tag| tag.to_string());
+    let cranes = READER.iter().chain(CRANES).map(|tag| format!("{CRANE} {tag}"));
+    plain.chain(cranes).collect()
+}
+
+/// What one comment line says is tried, by the same names.
+pub fn of(comment: &str) -> Vec<String> {
+    let mut tags = comment.split("; ").peekable();
+    let prefix = if tags.next_if_eq(&CRANE).is_some() { "crane " } else { "" };
+    tags.map(|tag| format!("{prefix}{tag}")).collect()
+}

@@ -1,0 +1,117 @@
+//! What each call is answered.
+
+use std::fmt;
+
+use super::line::Line;
+use super::{marks, Call};
+use crate::pod::{Pod, Report};
+use crate::reader::{Asked, Ran, Reader};
+use crate::refusal::Refusal;
+use crate::table::SlotNumber;
+use crate::writer::{Writer, Written};
+
+impl Call {
+    /// Makes the call on a copy of its state; the answer's line.
+    pub fn answer(&self) -> String {
+        let mut line = Line::from(String::new());
+        match self {
+            Call::Fresh(layout, setup) => {
+                let made = Reader::fresh(*layout, *setup);
+                line.verdict(&made);
+                line.reader(&made.unwrap_or_else(|_| Reader::zeros(*layout)));
+            }
+            Call::New(setup) => {
+                let made = Writer::fresh(*setup);
+                line.verdict(&made);
+                line.writer(&made.unwrap_or(Writer::ZEROS));
+            }
+            Call::Run { reader, bytes } => line.ran_by(reader.clone(), |reader| reader.run(bytes)),
+            Call::One { reader, event } => line.ran_by(reader.clone(), |reader| reader.one(*event)),
+            Call::Load { reader, current, image } => {
+                let mut reader = reader.clone();
+                let loaded = reader.load(image, *current);
+                line.verdict(&loaded);
+                line.reader(&reader);
+            }
+            Call::Ask { reader, slot } => line.asked(reader, *slot),
+            Call::Write { writer, position, size, frame } => line.written(writer.clone(), *position, *size, frame),
+            Call::Good { reader } => line.put(reader.is_well_formed() as u8),
+            Call::Start => line.pod(&Pod::FRESH),
+            Call::Pod { pod, bytes } => line.reports(*pod, bytes),
+        }
+        line.text()
+    }
+}
+
+impl Line {
+    fn ran_by(&mut self, mut reader: Reader, run: impl Fn(&mut Reader) -> Result<Ran, Refusal>) {
+        let ran = run(&mut reader);
+        self.verdict(&ran);
+        self.reader(&reader);
+        self.ran(ran.unwrap_or(Ran::NOTHING));
+    }
+
+    fn asked(&mut self, reader: &Reader, slot: SlotNumber) {
+        match reader.ask(slot) {
+            Ok(Asked::Contact(slot)) => {
+                self.put("contact");
+                self.slot(reader.layout, &slot);
+            }
+            Ok(Asked::Empty) => self.put("empty"),
+            Ok(Asked::Unknown) => self.put("unknown"),
+            Ok(Asked::NoSuchSlot) => self.put("none"),
+            Err(refusal) => self.refused(refusal),
+        }
+    }
+
+    fn written(&mut self, mut writer: Writer, position: u64, size: usize, frame: &[i32]) {
+        let mut buffer = marks(size);
+        let written = writer.write(frame, &mut buffer, position);
+        self.verdict(&written);
+        self.writer(&writer);
+        let Written { events, changed } = written.unwrap_or(Written::ZEROS);
+        self.put(events);
+        self.put(changed);
+        self.put(written.err().map_or(0, Refusal::need));
+        self.put(":");
+        self.all(&buffer);
+    }
+
+    fn reports(&mut self, mut pod: Pod, bytes: &[u8]) {
+        for (i, byte) in bytes.iter().enumerate() {
+            if i > 0 {
+                self.put("/");
+            }
+            let report = pod.take(*byte);
+            self.pod(&pod);
+            match report {
+                Ok(report) => self.put(InWords(report)),
+                Err(refusal) => self.refused(refusal),
+            }
+        }
+    }
+}
+
+/// A pod's answer in words, as `drive` and `show_pod` print it.
+pub struct InWords(pub Report);
+
+impl fmt::Display for InWords {
+    fn fmt(&self, f: &mut fmt::Formatter) -> fmt::Result {
+        match self.0 {
+            Report::More => f.write_str("more"),
+            Report::SelfTestPassed => f.write_str("self-test passed"),
+            Report::Down(key) => write!(f, "down {key}"),
+            Report::Up(key) => write!(f, "up {key}"),
+            Report::Absolute { flags, x, y } => write!(f, "absolute {flags} {x} {y}"),
+            Report::Relative { left, right, dx, dy } => {
+                write!(f, "relative {} {} {dx} {dy}", left as u8, right as u8)
+            }
+            Report::Sticks(zero, one) => {
+                write!(f, "sticks {} {} {} {}", zero.trigger as u8, zero.position, one.trigger as u8, one.position)
+            }
+            Report::Stick { which, stick } => write!(f, "stick {which} {} {}", stick.trigger as u8, stick.position),
+            Report::BadByte => f.write_str("bad byte"),
+            Report::BadReport => f.write_str("bad report"),
+        }
+    }
+}

@@ -1,0 +1,197 @@
+//! Scripts of calls in the format of docs/DRIVE.md: a line read, written, and answered.
+
+mod answers;
+mod line;
+mod numbers;
+#[cfg(test)]
+mod tests;
+
+pub use answers::InWords;
+
+use crate::events::Event;
+use crate::pod::{Pod, PLACES};
+use crate::reader::Reader;
+use crate::table::{Layout, Setup, SlotNumber};
+use crate::writer::Writer;
+use line::Line;
+use numbers::Numbers;
+
+/// The bytes that a line has at most, without its newline.
+pub const LONGEST_LINE: usize = 65_535;
+/// The numbers that a line has at most.
+pub const MOST_NUMBERS: usize = 12_000;
+/// The bytes that the buffer of a `write` has at most.
+pub const LARGEST_BUFFER: usize = 4_096;
+/// The answer to a line that is no call.
+pub const BAD_LINE: &str = "bad line";
+/// What the names of the calls of a crane's reader begin with.
+pub const CRANE: &str = "crane_";
+
+// How many numbers each part has. A state stands behind one word, the call's name or the verdict, so its number i is the line's word i.
+
+/// n and the largest values.
+pub const fn setup_numbers(layout: Layout) -> usize {
+    1 + layout.numbers()
+}
+
+/// What comes before a state's first table: the setup, the current slot, and the mode or the counter.
+pub const fn head_numbers(layout: Layout) -> usize {
+    setup_numbers(layout) + 2
+}
+
+/// The records.
+pub const fn table_numbers(layout: Layout) -> usize {
+    layout.slots() * layout.slot_numbers()
+}
+
+/// The head and both tables.
+pub const fn reader_numbers(layout: Layout) -> usize {
+    head_numbers(layout) + 2 * table_numbers(layout)
+}
+
+/// The head of a writer.
+pub const WRITER_HEAD: usize = head_numbers(Layout::Panel);
+/// The head and the table.
+pub const WRITER_NUMBERS: usize = WRITER_HEAD + table_numbers(Layout::Panel);
+/// Whether it waits, how many bytes are held, and the places.
+pub const POD_NUMBERS: usize = 2 + PLACES;
+
+/// One line of a script, with the whole state that it carries.
+#[derive(Clone, PartialEq, Eq, Debug)]
+pub enum Call {
+    Fresh(Layout, Setup),
+    New(Setup),
+    Run { reader: Reader, bytes: Vec<u8> },
+    One { reader: Reader, event: Event },
+    Load { reader: Reader, current: SlotNumber, image: Vec<i32> },
+    Ask { reader: Reader, slot: SlotNumber },
+    Write { writer: Writer, position: u64, size: usize, frame: Vec<i32> },
+    Good { reader: Reader },
+    Start,
+    Pod { pod: Pod, bytes: Vec<u8> },
+}
+
+/// The marks that a buffer holds before a `write`.
+pub fn marks(size: usize) -> Vec<u8> {
+    (0..size).map(|i| (37 * i + 11) as u8).collect()
+}
+
+/// The lines of a script or of answers. A carriage return is part of its line, which is then another one.
+pub fn lines_of(text: &str) -> impl Iterator<Item = &str> {
+    text.split_terminator('\n')
+}
+
+/// True for a line that is passed over and answered by nothing.
+pub fn is_passed_over(line: &[u8]) -> bool {
+    line.is_empty() || line[0] == b'#'
+}
+
+/// The answer to a line that is not passed over.
+pub fn answer_line(line: &[u8]) -> String {
+    Call::parse(line).map_or_else(|| BAD_LINE.to_string(), |call| call.answer())
+}
+
+/// The reader that a call's word speaks of, if it is a reader's, and the word without saying so.
+pub fn layout_of(word: &str) -> (Layout, &str) {
+    match word.strip_prefix(CRANE) {
+        Some(rest) => (Layout::Crane, rest),
+        None => (Layout::Panel, word),
+    }
+}
+
+impl Call {
+    /// The call that a line is; `None` for a bad line.
+    pub fn parse(line: &[u8]) -> Option<Call> {
+        if line.len() > LONGEST_LINE {
+            return None;
+        }
+        let mut words = line.split(|byte| *byte == b' ').filter(|word| !word.is_empty());
+        let word = std::str::from_utf8(words.next()?).ok()?;
+        let mut numbers = Numbers::of(words)?;
+        let (layout, name) = layout_of(word);
+        let call = match (layout, name) {
+            (Layout::Panel, "new" | "write" | "start" | "pod") => numbers.other_call(name)?,
+            _ => numbers.reader_call(layout, name)?,
+        };
+        numbers.is_done().then_some(call)
+    }
+
+    /// Whose reader the call is on; `None` where it is on none.
+    pub fn layout(&self) -> Option<Layout> {
+        match self {
+            Call::Fresh(layout, _) => Some(*layout),
+            _ => self.reader().map(|reader| reader.layout),
+        }
+    }
+
+    /// The reader whose state the call carries.
+    pub fn reader(&self) -> Option<&Reader> {
+        match self {
+            Call::Run { reader, .. }
+            | Call::One { reader, .. }
+            | Call::Load { reader, .. }
+            | Call::Ask { reader, .. }
+            | Call::Good { reader } => Some(reader),
+            Call::Fresh(..) | Call::New(_) | Call::Write { .. } | Call::Start | Call::Pod { .. } => None,
+        }
+    }
+
+    /// The word that a call's line begins with.
+    pub fn name(&self) -> String {
+        let name = match self {
+            Call::Fresh(..) => "fresh",
+            Call::New(_) => "new",
+            Call::Run { .. } => "run",
+            Call::One { .. } => "one",
+            Call::Load { .. } => "load",
+            Call::Ask { .. } => "ask",
+            Call::Write { .. } => "write",
+            Call::Good { .. } => "good",
+            Call::Start => "start",
+            Call::Pod { .. } => "pod",
+        };
+        let prefix = if self.layout() == Some(Layout::Crane) { CRANE } else { "" };
+        format!("{prefix}{name}")
+    }
+
+    /// The line that [`Call::parse`] reads back to the same call.
+    pub fn line(&self) -> String {
+        let mut line = Line::from(self.name());
+        match self {
+            Call::Fresh(layout, setup) => line.setup(*layout, setup),
+            Call::New(setup) => line.setup(Layout::Panel, setup),
+            Call::Write { writer, .. } => line.writer(writer),
+            Call::Pod { pod, .. } => line.pod(pod),
+            Call::Start => {}
+            Call::Run { reader, .. }
+            | Call::One { reader, .. }
+            | Call::Load { reader, .. }
+            | Call::Ask { reader, .. }
+            | Call::Good { reader } => line.reader(reader),
+        }
+        self.put_rest(&mut line);
+        line.text()
+    }
+
+    /// The numbers behind the state.
+    fn put_rest(&self, line: &mut Line) {
+        match self {
+            Call::Run { bytes, .. } | Call::Pod { bytes, .. } => line.all(bytes),
+            Call::One { event, .. } => {
+                line.all(&[event.kind, event.code]);
+                line.put(event.value);
+            }
+            Call::Load { current, image, .. } => {
+                line.put(current.0);
+                line.all(image);
+            }
+            Call::Ask { slot, .. } => line.put(slot.0),
+            Call::Write { position, size, frame, .. } => {
+                line.put(position);
+                line.put(size);
+                line.all(frame);
+            }
+            Call::Fresh(..) | Call::New(_) | Call::Good { .. } | Call::Start => {}
+        }
+    }
+}

@@ -1,0 +1,208 @@
+//! Lines read, written and answered as docs/DRIVE.md says.
+
+use super::*;
+use crate::table::SLOTS;
+
+fn answer(line: &str) -> String {
+    answer_line(line.as_bytes())
+}
+
+const UNUSED: &str = "-1 0 0 0 0 0 ";
+
+fn empty() -> String {
+    UNUSED.repeat(SLOTS)
+}
+
+fn crane_empty() -> String {
+    "-1 0 0 0 ".repeat(16)
+}
+
+#[test]
+fn as_many_numbers_as_the_page_says() {
+    assert_eq!(reader_numbers(Layout::Panel), 200);
+    assert_eq!(WRITER_NUMBERS, 104);
+    assert_eq!(reader_numbers(Layout::Crane), 134);
+}
+
+#[test]
+fn the_example_of_the_format() {
+    let (table, landed) = (empty(), format!("0 0 0 0 0 0 {}", UNUSED.repeat(SLOTS - 1)));
+    assert_eq!(
+        answer(&format!("one 1 4000 4000 255 255 255 0 0 {table}{table}3 57 0")),
+        format!("0 1 4000 4000 255 255 255 0 0 {table}{landed}0 0 0 0 0 none")
+    );
+    let (table, landed) = (crane_empty(), format!("0 0 0 0 {}", "-1 0 0 0 ".repeat(15)));
+    assert_eq!(
+        answer(&format!("crane_one 1 4000 4000 255 0 0 {table}{table}3 57 0")),
+        format!("0 1 4000 4000 255 0 0 {table}{landed}0 0 0 0 0 none")
+    );
+}
+
+#[test]
+fn a_touch_size_is_set_here_and_skipped_there() {
+    let (table, sized) = (empty(), format!("-1 0 0 0 7 0 {}", UNUSED.repeat(SLOTS - 1)));
+    assert_eq!(
+        answer(&format!("one 1 4000 4000 255 255 255 0 0 {table}{table}3 48 7")),
+        format!("0 1 4000 4000 255 255 255 0 0 {table}{sized}0 0 0 0 0 none")
+    );
+    let reader = format!("1 4000 4000 255 0 0 {0}{0}", crane_empty());
+    assert_eq!(answer(&format!("crane_one {reader}3 48 7")), format!("0 {reader}0 0 1 0 0 3 48"));
+    assert_eq!(answer(&format!("crane_one {reader}3 49 -7")), format!("0 {reader}0 0 1 0 0 3 49"));
+}
+
+#[test]
+fn a_contact_has_six_numbers_here_and_four_there() {
+    let table = format!("5 1 2 3 4 5 {}", UNUSED.repeat(SLOTS - 1));
+    assert_eq!(answer(&format!("ask 1 9 9 9 9 9 0 0 {table}{table}0")), "contact 5 1 2 3 4 5");
+    let table = format!("5 1 2 3 {}", "-1 0 0 0 ".repeat(15));
+    assert_eq!(answer(&format!("crane_ask 1 9 9 9 0 0 {table}{table}0")), "contact 5 1 2 3");
+    let stale = format!("1 9 9 9 0 2 {table}{table}");
+    assert_eq!(answer(&format!("crane_load {stale}0 5 1 2 3")), format!("0 1 9 9 9 0 0 {table}{table}").trim_end());
+    assert_eq!(answer(&format!("crane_load {stale}0 5 1 2 3 4 5")), format!("8 {stale}").trim_end());
+}
+
+#[test]
+fn what_was_skipped_first_comes_last() {
+    let reader = format!("1 4000 4000 255 255 255 0 0 {0}{0}", empty());
+    assert_eq!(answer(&format!("one {reader}3 50 7")), format!("0 {reader}0 0 1 0 0 3 50"));
+    assert_eq!(answer(&format!("one {reader}1 330 1")), format!("0 {reader}0 1 0 0 0 1 330"));
+    let records = "4 0 4 0 7 0 0 0 0 0 2 0 0 0 0 0 0 0 0 0 0 0 0 0";
+    assert_eq!(answer(&format!("run {reader}{records}")), format!("0 {reader}1 1 1 0 0 4 4"));
+    assert_eq!(answer(&format!("run {reader}{records} 0")), format!("6 {reader}0 0 0 0 0 none"));
+}
+
+#[test]
+fn a_carriage_return_is_part_of_its_line() {
+    assert_eq!(lines_of("start\r\n\nstart").collect::<Vec<_>>(), ["start\r", "", "start"]);
+    assert_eq!(lines_of("").count(), 0);
+    assert_eq!(answer("start\r"), BAD_LINE);
+}
+
+#[test]
+fn a_refused_setup_leaves_zeros() {
+    assert_eq!(answer("new 0 1 1 1 1 1"), format!("1{}", " 0".repeat(WRITER_NUMBERS)));
+    let most = SLOTS + 1;
+    assert_eq!(answer(&format!("fresh {most} 1 1 1 1 1")), format!("1{}", " 0".repeat(reader_numbers(Layout::Panel))));
+    assert_eq!(answer("fresh 1 1 1 1 1 256"), format!("1{}", " 0".repeat(reader_numbers(Layout::Panel))));
+    assert_eq!(answer("crane_fresh 17 1 1 1"), format!("1{}", " 0".repeat(reader_numbers(Layout::Crane))));
+}
+
+#[test]
+fn a_buffer_keeps_its_marks() {
+    let writer = format!("1 9 9 9 9 9 0 0 {}", empty());
+    assert_eq!(answer(&format!("write {writer}0 4 0 0 0 0 0 0")), format!("0 {writer}0 0 0 : 11 48 85 122"));
+    assert_eq!(answer(&format!("write {writer}0 0 0 0 0 0 0 0")), format!("0 {writer}0 0 0 :"));
+}
+
+#[test]
+fn lines_that_are_no_call() {
+    let (table, crane) = (empty(), crane_empty());
+    for line in [
+        " ".to_string(),
+        "zero 1 2 3 4".to_string(),
+        "1 2 3 4".to_string(),
+        "fresh 1 2 3 4".to_string(),
+        "fresh 1 2 3 4 5".to_string(),
+        "fresh 1 2 3 4 5 6 7".to_string(),
+        "fresh 1 2 3 4 5 x".to_string(),
+        "fresh 1 2 3 4 5 +6".to_string(),
+        "fresh 1 2 3 4 5 -".to_string(),
+        "fresh -1 2 3 4 5 6".to_string(),
+        "fresh 1 2 3 4 5 4294967296".to_string(),
+        "fresh 18446744073709551616 2 3 4 5 6".to_string(),
+        "crane_fresh 1 2 3".to_string(),
+        "crane_fresh 1 2 3 4 5 6".to_string(),
+        "crane_new 1 2 3 4 5 6".to_string(),
+        "crane_new 1 2 3 4".to_string(),
+        "crane_start".to_string(),
+        "crane_".to_string(),
+        "crane_crane_fresh 1 2 3 4".to_string(),
+        "pod 0 0 0 0 0 0 0 256".to_string(),
+        "pod 0 0 0 0 0 0 0".to_string(),
+        "pod 2 0 0 0 0 0 0 1".to_string(),
+        "pod -1 0 0 0 0 0 0 1".to_string(),
+        "pod 256 0 0 0 0 0 0 1".to_string(),
+        "start 0".to_string(),
+        format!("write 1 9 9 9 9 9 0 0 {table}0 4097 0 0 0 0 0 0"),
+        format!("write 1 9 9 9 9 9 0 0 {table}0 0 0 0 0 0 0 2147483648"),
+        format!("ask 1 9 9 9 9 9 0 3 {table}{table}0"),
+        format!("crane_ask 1 9 9 9 0 3 {crane}{crane}0"),
+        format!("ask 1 9 9 9 0 0 {crane}{crane}0"),
+        format!("run 1 9 9 9 9 9 0 0 {table}{table}{}", "0 ".repeat(12_000)),
+        format!("fresh 1 2 3 4 5 6{}", " ".repeat(LONGEST_LINE)),
+    ] {
+        assert_eq!(answer(&line), BAD_LINE, "{line}");
+    }
+}
+
+const NAMES: [&str; 16] = [
+    "fresh",
+    "new",
+    "run",
+    "one",
+    "load",
+    "ask",
+    "good",
+    "write",
+    "start",
+    "pod",
+    "crane_fresh",
+    "crane_run",
+    "crane_one",
+    "crane_load",
+    "crane_ask",
+    "crane_good",
+];
+
+/// Numbers with which that name is a call.
+fn numbers_for(name: &str) -> String {
+    let (layout, word) = layout_of(name);
+    let reader = match layout {
+        Layout::Panel => format!("1 9 9 9 9 9 0 0 {0}{0}", empty()),
+        Layout::Crane => format!("1 9 9 9 0 0 {0}{0}", crane_empty()),
+    };
+    match (layout, word) {
+        (Layout::Crane, "fresh") => "1 2 3 4".to_string(),
+        (_, "fresh" | "new") => "1 2 3 4 5 6".to_string(),
+        (_, "run" | "good") => reader,
+        (_, "one") => format!("{reader}3 57 0"),
+        (_, "load" | "ask") => format!("{reader}0"),
+        (_, "write") => format!("1 9 9 9 9 9 0 0 {}0 0 0 0 0 0 0 0", empty()),
+        (_, "pod") => "0 0 0 0 0 0 0 1".to_string(),
+        _ => String::new(),
+    }
+}
+
+#[test]
+fn a_word_is_written_out_whole() {
+    for name in NAMES {
+        let numbers = numbers_for(name);
+        assert_ne!(answer(&format!("{name} {numbers}")), BAD_LINE, "{name}");
+        let upper = name[..1].to_uppercase() + &name[1..];
+        let longer = format!("{name}ly");
+        let other = format!("{}oo", &name[..1]);
+        for word in [&name[..1], &name[..name.len() - 1], &upper, &longer, &other, &format!("{name}\r")] {
+            assert_eq!(answer(&format!("{word} {numbers}")), BAD_LINE, "{word}");
+        }
+    }
+    for line in ["stop", "foo 1 2 3 4 5 6", "Fresh 1 2 3 4 5 6", "freshly 1 2 3 4 5 6", "start\t", "fresh\t1 2 3 4 5 6"]
+    {
+        assert_eq!(answer(line), BAD_LINE, "{line}");
+    }
+    assert_eq!(answer_line(b"fresh\xff 1 2 3 4 5 6"), BAD_LINE);
+}
+
+#[test]
+fn spaces_and_zeros_too_many() {
+    assert_eq!(answer("fresh  1 2  3 4 5 6"), answer("fresh 1 2 3 4 5 6"));
+    assert_eq!(answer(" fresh 01 2 3 4 5 6 "), answer("fresh 1 2 3 4 5 6"));
+    assert_eq!(answer("new -0 2 3 4 5 6"), answer("new 0 2 3 4 5 6"));
+    assert_eq!(answer("  crane_fresh 01 2 3 -0 "), answer("crane_fresh 1 2 3 0"));
+    assert_eq!(answer("pod 0 0 0 0 0 0 0 1"), "0 0 0 0 0 0 0 down 1");
+    assert_eq!(answer("pod 1 1 255 0 0 0 0 16 245"), "1 0 0 0 0 0 0 bad report / 1 0 0 0 0 0 0 up 117");
+    assert_eq!(answer("pod 1 0 0 0 0 0 0 240 240"), "0 0 0 0 0 0 0 self-test passed / 0 0 0 0 0 0 0 up 112");
+    assert_eq!(answer("start"), "1 0 0 0 0 0 0");
+    let full = MOST_NUMBERS - reader_numbers(Layout::Panel);
+    assert!(answer(&format!("run {}{}", numbers_for("run"), "0 ".repeat(full))).starts_with('0'));
+    assert_eq!(answer(&format!("run {}{}", numbers_for("run"), "0 ".repeat(full + 1))), BAD_LINE);
+}
