@@ -47,10 +47,6 @@ four true true c d = refl
 four true false true d = refl
 four true false false d = refl
 
-and-of-true : (a : Bool) → a ≡ (a && true)
-and-of-true true = refl
-and-of-true false = refl
-
 contact-split : (axes : List Axis) (largest : List ℕ) (vs : List ℤ) → T (leastsSmall axes)
     → goodContact (axisFields axes largest) vs ≡ (goodSlot (axisFields axes largest) vs && allNonZero axes vs)
 contact-split [] largest [] t = refl
