@@ -4,7 +4,7 @@ use std::hint::black_box;
 use std::time::Instant;
 
 /// How many slots are in contact.
-pub const SIZES: [u32; 3] = [1, 4, 16];
+pub const SIZES: [u32; 5] = [1, 2, 4, 16, 32];
 /// How often each version is timed.
 const ROUNDS: usize = 51;
 /// The least time that is measured, in seconds.

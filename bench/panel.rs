@@ -1,6 +1,6 @@
 //! A panel's setup, its slots and the tests of both in plain Rust, for every version in Rust: document 01's ranges.
 
-pub const RECORDS: usize = 16;
+pub const RECORDS: usize = 32;
 
 /// How many numbers a slot has.
 pub const PER_SLOT: usize = 6;
@@ -84,7 +84,8 @@ impl Setup {
     }
 }
 
-/// Whether all live ids differ.
-pub fn ids_differ(table: &Table) -> bool {
+/// Whether all live ids differ, of which the first n slots alone may have one.
+pub fn ids_differ(n: u32, table: &Table) -> bool {
+    let table = &table[..n as usize];
     table.iter().enumerate().all(|(i, a)| a.id == -1 || table[i + 1..].iter().all(|b| b.id != a.id))
 }

@@ -1,4 +1,4 @@
-//! Whether all versions of the reader answer the same: the state's 800 bytes, the verdict, every count and all that is told of a slot.
+//! Whether all versions of the reader answer the same: the state's 1,568 bytes, the verdict, every count and all that is told of a slot.
 
 use crate::calls::{agreed, Noise, Verdicts};
 use crate::loads::{record, records, start, LOADS};

@@ -45,7 +45,7 @@ fn ignore(state: &mut State, kind: u16, code: u16, counts: &mut Counts) {
 
 fn follow(state: &mut State, kind: u16, code: u16, value: i32, counts: &mut Counts) {
     match (kind, code) {
-        (0, 0) if ids_differ(&state.pending) => {
+        (0, 0) if ids_differ(state.setup.n, &state.pending) => {
             state.shown = state.pending;
             counts.shown += 1;
         }

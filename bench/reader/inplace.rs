@@ -45,7 +45,7 @@ impl State {
                     ids_tested = false;
                 }
                 REPORT => {
-                    if !(LATE && ids_tested) && !ids_differ(&self.pending) {
+                    if !(LATE && ids_tested) && !ids_differ(self.setup.n, &self.pending) {
                         lost = Some((Lost::RepeatedId, k));
                         break;
                     }

@@ -1,4 +1,4 @@
-//! The reader's state as each version is handed it, 800 bytes that the host keeps, and the calls that all versions in Rust share: fresh, load and ask.
+//! The reader's state as each version is handed it, 1,568 bytes that the host keeps, and the calls that all versions in Rust share: fresh, load and ask.
 
 use crate::panel::{ids_differ, Setup, Slot, Table, PER_SLOT, RECORDS, UNUSED, ZERO};
 
@@ -76,7 +76,7 @@ impl State {
         self.setup.ok()
             && self.setup.table_ok(&self.shown)
             && self.setup.table_ok(&self.pending)
-            && ids_differ(&self.shown)
+            && ids_differ(self.setup.n, &self.shown)
             && self.current < self.setup.n
             && (self.mode == FOLLOWING || self.mode <= STALE && self.shown == self.pending)
     }
@@ -94,7 +94,7 @@ impl State {
             *slot = Slot::of(row);
         }
         let n = self.setup.n as usize;
-        if image.len() != PER_SLOT * n || current >= n || !self.setup.table_ok(&table) || !ids_differ(&table) {
+        if image.len() != PER_SLOT * n || current >= n || !self.setup.table_ok(&table) || !ids_differ(self.setup.n, &table) {
             return 8;
         }
         *self = State { current: current as u32, ..State::with(self.setup, table) };

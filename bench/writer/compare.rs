@@ -1,4 +1,4 @@
-//! Whether all versions of the writer answer the same: the state's 416 bytes, the verdict, every number of the answer and every byte of the buffer.
+//! Whether all versions of the writer answer the same: the state's 800 bytes, the verdict, every number of the answer and every byte of the buffer.
 
 use crate::calls::{agreed, Noise, Verdicts};
 use crate::loads::{frames, landing, setup, LOADS};

@@ -89,7 +89,7 @@ impl State {
 
     /// The next free id. Those given in this frame lie behind the counter, so only the table is searched.
     fn next_id(&mut self) -> i32 {
-        while self.table.iter().any(|slot| slot.id == self.counter as i32) {
+        while self.table[..self.setup.n as usize].iter().any(|slot| slot.id == self.counter as i32) {
             self.counter = (self.counter + 1) % 65536;
         }
         let id = self.counter as i32;

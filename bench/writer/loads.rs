@@ -5,8 +5,8 @@ use crate::panel::{Setup, PER_SLOT};
 /// What changes: nothing; x of one slot, another one each time; every number but the id of every slot; every contact is another one; every finger lifts, and lands again.
 pub const LOADS: [&str; 5] = ["quiet", "one", "all", "replace", "lift"];
 
-/// How many frames a load has.
-pub const FRAMES: i32 = 32;
+/// How many frames a load has: twice the most slots, so that each of them moves out and back.
+pub const FRAMES: i32 = 64;
 
 pub fn setup(n: u32) -> Setup {
     Setup { n, x: 4000, y: 4000, pressure: 255, major: 255, minor: 255 }

@@ -1,4 +1,4 @@
-//! The writer's state as each version is handed it, 416 bytes that the host keeps, and what refusals 1 and 2 judge.
+//! The writer's state as each version is handed it, 800 bytes that the host keeps, and what refusals 1 and 2 judge.
 
 use crate::panel::{ids_differ, Setup, Table, RECORDS, UNUSED, ZERO};
 
@@ -24,7 +24,7 @@ impl State {
     pub fn well_formed(&self) -> bool {
         self.setup.ok()
             && self.setup.table_ok(&self.table)
-            && ids_differ(&self.table)
+            && ids_differ(self.setup.n, &self.table)
             && self.current < self.setup.n
             && self.counter < 65536
     }

@@ -1,6 +1,6 @@
 //! A shorter way to write a script's lines, for people: `[..]` is a table and `{..}` a record.
 //!
-//! `[0 100 200 30 9 7]` is a table whose first slots are given and whose others are unused, with four numbers a slot in a call of a crane's; `{X 300}` is the eight bytes of that event, `{X 300}*9` nine times them.
+//! `[0 100 200 30 9 7]` is a table whose first slots are given and whose others are unused, with four numbers a slot in a call of a crane's; `{X 300}` is the eight bytes of that event, `{X 300}*9` nine times them; `(1 100 200 30 9 7)*32` is these numbers 32 times.
 
 use crate::events::{events, RECORD};
 use crate::reader::Reader;
@@ -43,35 +43,41 @@ fn expand_part<'a>(rest: &'a str, layout: Layout, out: &mut Vec<String>) -> Resu
     }
     if let Some(inside) = rest.strip_prefix('{') {
         let (event, after) = inside.split_once('}').ok_or("a { without its }")?;
-        return expand_record(event, after, out);
+        let words: Vec<&str> = event.split_whitespace().collect();
+        let record = records::event(&words)?.to_bytes().map(|byte| byte.to_string());
+        return repeat(&record, after, "records", out);
+    }
+    if let Some(inside) = rest.strip_prefix('(') {
+        let (numbers, after) = inside.split_once(')').ok_or("a ( without its )")?;
+        let numbers: Vec<String> = numbers.split_whitespace().map(str::to_string).collect();
+        return repeat(&numbers, after, "rows", out);
     }
     let (word, after) = rest.split_once(' ').unwrap_or((rest, ""));
     out.push(word.to_string());
     Ok(after)
 }
 
-fn expand_record<'a>(event: &str, after: &'a str, out: &mut Vec<String>) -> Result<&'a str, String> {
-    let words: Vec<&str> = event.split_whitespace().collect();
-    let bytes = records::event(&words)?.to_bytes();
+/// Writes these words as often as the `*` behind them says, or once; what comes after it.
+fn repeat<'a>(words: &[String], after: &'a str, what: &str, out: &mut Vec<String>) -> Result<&'a str, String> {
     let (times, after) = match after.strip_prefix('*') {
         Some(counted) => {
             let (count, after) = counted.split_once(' ').unwrap_or((counted, ""));
-            (times(count, out.len())?, after)
+            (times(count, words.len(), what, out.len())?, after)
         }
         None => (1, after),
     };
     for _ in 0..times {
-        out.extend(bytes.iter().map(u8::to_string));
+        out.extend_from_slice(words);
     }
     Ok(after)
 }
 
-/// How often a record is repeated behind so many words. A few letters must not take all memory: one record more than a call may have is enough to write a line that is none.
-fn times(count: &str, behind: usize) -> Result<usize, String> {
+/// How often so many words are repeated behind others. A few letters must not take all memory: once more than a call may have is enough to write a line that is none.
+fn times(count: &str, words: usize, what: &str, behind: usize) -> Result<usize, String> {
     let times: usize = count.parse().map_err(|_| format!("'{count}' is no count"))?;
-    let most = (1 + MOST_NUMBERS).saturating_sub(behind) / RECORD + 1;
+    let most = (1 + MOST_NUMBERS).saturating_sub(behind) / words.max(1) + 1;
     if times > most {
-        return Err(format!("{times} records, where at most {most} are of use"));
+        return Err(format!("{times} {what}, where at most {most} are of use"));
     }
     Ok(times)
 }
@@ -175,6 +181,8 @@ mod tests {
             ("crane_run [1 2 3 4 5 6]", "line 1: a table of 6 numbers: 4 a slot"),
             ("run [1", "line 1: a [ "),
             ("run {X", "line 1: a { "),
+            ("write (1 2", "line 1: a ( "),
+            ("write (1 2)*99999", "line 1: 99999 rows, where at most 6001 are of use"),
             ("run {Z 1}", "line 1: 'Z'"),
             ("run {X 1}*q", "line 1: 'q'"),
             ("run {X 1}*9999999999999999", "line 1: 9999999999999999 records"),
@@ -184,5 +192,6 @@ mod tests {
             assert!(expand(text).unwrap_err().starts_with(error), "{text}");
         }
         assert!(expand("run {X 1}*1501").is_ok());
+        assert_eq!(expand("write (1 2 )*3 (4) ()*9 5\n").unwrap(), "write 1 2 1 2 1 2 4 5\n");
     }
 }

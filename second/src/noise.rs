@@ -7,7 +7,7 @@ use crate::maker::Maker;
 use crate::pod::Pod;
 use crate::programs::{write_frames, HEADER};
 use crate::reader::Reader;
-use crate::table::{Layout, Setup, LIMITS, NUMBERS};
+use crate::table::{Layout, Setup, LIMITS, NUMBERS, SLOTS};
 use crate::writer::{Writer, LARGEST_FRAME};
 
 /// Every other input is short, one length after the other, so that every cut of the first records is tried; between them come long ones.
@@ -75,7 +75,7 @@ fn plain(maker: &mut Maker, length: usize) -> Vec<u8> {
 fn odd_setup(maker: &mut Maker, layout: Layout, turn: u64) -> Vec<u8> {
     let setup = match turn % 4 {
         0 => return header(&panel_setup(maker, layout))[..(turn / 4) as usize % HEADER].to_vec(),
-        1 => header(&one_bad_number(maker, layout, (turn / 4) as usize % (1 + NUMBERS))),
+        1 => header(&one_bad_number(maker, layout, turn / 4)),
         2 => header(&maker.any_setup(Layout::Panel)),
         _ => Vec::new(),
     };
@@ -83,21 +83,34 @@ fn odd_setup(maker: &mut Maker, layout: Layout, turn: u64) -> Vec<u8> {
     [setup, plain(maker, length)].concat()
 }
 
-/// The number `which` is out of its range, and the others are good. A crane does not judge the touch sizes.
-fn one_bad_number(maker: &mut Maker, layout: Layout, which: usize) -> Setup {
+/// One number after the other is out of its range, and the others are good. A crane does not judge the touch sizes.
+fn one_bad_number(maker: &mut Maker, layout: Layout, turn: u64) -> Setup {
     let mut setup = panel_setup(maker, layout);
+    let which = (turn % (1 + NUMBERS as u64)) as usize;
     match which {
-        0 => {
-            let n = maker.bad_n(layout, setup.slots) as u32;
-            // A header has 32 bits of it, and cut to them it may be good.
-            setup.slots = if (1..=layout.slots() as u32).contains(&n) { 0 } else { u64::from(n) };
-        }
+        0 => setup.slots = u64::from(bad_n(maker, layout, setup.slots, turn / (1 + NUMBERS as u64))),
         _ => {
             let largest = &mut setup.largest[which - 1];
             *largest = maker.bad_largest(*largest, LIMITS[which - 1]);
         }
     }
     setup
+}
+
+/// First the next n behind the most slots and then the widest panel's, since chance alone may leave them out.
+fn bad_n(maker: &mut Maker, layout: Layout, good: u64, round: u64) -> u32 {
+    let most = layout.slots() as u32;
+    let n = match round {
+        0 => most + 1,
+        1 => SLOTS as u32,
+        _ => maker.bad_n(layout, good) as u32,
+    };
+    // A header has 32 bits of it, and cut to them it may be good; the widest panel is good but for a crane.
+    if (1..=most).contains(&n) {
+        0
+    } else {
+        n
+    }
 }
 
 /// More than the low 32 bits of n does not fit a header; the cut number is then as good a header as another.
@@ -227,9 +240,9 @@ mod tests {
     #[test]
     fn each_number_is_bad_by_itself() {
         let mut maker = Maker::new(6);
-        for (layout, round) in Layout::ALL.into_iter().flat_map(|layout| (0..600).map(move |round| (layout, round))) {
-            let which = round % (1 + NUMBERS);
-            let setup = one_bad_number(&mut maker, layout, which);
+        for (layout, turn) in Layout::ALL.into_iter().flat_map(|layout| (0..600).map(move |turn| (layout, turn))) {
+            let which = (turn % (1 + NUMBERS as u64)) as usize;
+            let setup = one_bad_number(&mut maker, layout, turn);
             assert_eq!((1..=layout.slots() as u64).contains(&setup.slots), which != 0);
             for (i, limit) in LIMITS.into_iter().enumerate() {
                 assert_eq!((1..=limit).contains(&setup.largest[i]), which != 1 + i);

@@ -1,7 +1,9 @@
 //! A panel's setup, the slot records, and what makes them well formed.
 
-/// How many records a table holds, whatever the panel's n.
-pub const SLOTS: usize = 16;
+/// How many records a table holds, whatever the panel's n: K7's number.
+pub const SLOTS: usize = 32;
+/// How many records a crane's table holds. A slot from this one on is of wide panels alone.
+pub const NARROW: usize = 16;
 /// How many numbers a slot has besides its id.
 pub const NUMBERS: usize = 5;
 /// How many numbers tell of one slot: its id and those; in a frame the kind stands for the id.
@@ -21,7 +23,7 @@ pub const LIMITS: [u32; NUMBERS] = [32_767, 32_767, 255, 255, 255];
 pub const LARGEST_ID: u32 = 65_535;
 
 /// Whose a reader is: the panel's, or that of a crane in the field, which keeps document 01's four numbers and sixteen slots.
-/// What a crane does not know is 0 in its setup and its tables, so that one type holds both.
+/// What a crane does not know is 0 in its setup and its tables, and a record that it has not is unused, so that one type holds both.
 #[derive(Clone, Copy, PartialEq, Eq, Debug)]
 pub enum Layout {
     Panel,
@@ -36,7 +38,7 @@ impl Layout {
     pub const fn slots(self) -> usize {
         match self {
             Layout::Panel => SLOTS,
-            Layout::Crane => 16,
+            Layout::Crane => NARROW,
         }
     }
 
@@ -227,7 +229,10 @@ mod tests {
         table[3].id = TrackingId(1);
         table[9].id = TrackingId(65);
         assert!(live_ids_differ(&table));
-        table[15].id = TrackingId(1);
-        assert!(!live_ids_differ(&table));
+        for twin in [15, 16, SLOTS - 1] {
+            let mut table = table;
+            table[twin].id = TrackingId(1);
+            assert!(!live_ids_differ(&table), "slot {twin}");
+        }
     }
 }

@@ -23,7 +23,7 @@ pub struct Writer {
 pub struct Written {
     pub events: u32,
     /// Bit s for slot s.
-    pub changed: u16,
+    pub changed: u32,
 }
 
 impl Written {
@@ -84,7 +84,7 @@ impl Writer {
     fn plan(&self, frame: &[i32]) -> Option<Plan> {
         let mut table = self.table;
         let mut counter = self.counter;
-        let mut changed = 0u16;
+        let mut changed = 0u32;
         let mut numbers = 0;
         for (s, wanted) in frame.chunks_exact(SLOT_NUMBERS).enumerate() {
             let old = self.table[s];
@@ -103,14 +103,14 @@ impl Writer {
             };
             let differing = changes(&old, &new);
             numbers += differing;
-            changed |= u16::from(differing != 0) << s;
+            changed |= u32::from(differing != 0) << s;
             table[s] = new;
         }
         let events = if changed == 0 {
             0
         } else {
             // One SLOT for each changed slot but the current one, and the report.
-            let without_slot = u32::from(changed >> self.current.0 & 1);
+            let without_slot = changed >> self.current.0 & 1;
             numbers + changed.count_ones() - without_slot + 1
         };
         Some(Plan { table, counter, written: Written { events, changed } })
@@ -129,7 +129,7 @@ impl Writer {
     /// `so_far` holds the new slots below the one that asks. Besides the ids given in this frame it holds kept ones, which are live in the old table anyway.
     fn first_free(&self, from: u32, so_far: &[Slot]) -> u32 {
         let mut id = from;
-        // Ends: at most 16 ids are live and 16 given, of 65,536.
+        // Ends: at most 32 ids are live and 32 given, of 65,536.
         loop {
             let wanted = TrackingId(id as i32);
             let taken = |slots: &[Slot]| slots.iter().any(|slot| slot.id == wanted);

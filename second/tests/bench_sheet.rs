@@ -29,7 +29,7 @@ fn p1_to_p7_each_after_the_row_before() {
     assert_eq!(written, Ok(Written { events: 5, changed: 0b01 }));
     assert_eq!(buffer, P1);
 
-    let mut row = |frame: &[i32], sent: &[&str], changed: u16| {
+    let mut row = |frame: &[i32], sent: &[&str], changed: u32| {
         let (events, written) = write(&mut writer, frame).unwrap();
         assert_eq!(events, sent);
         assert_eq!(written.events as usize, sent.len());
@@ -139,8 +139,8 @@ fn run_p2_with_47_and_with_48_bytes_left() {
 }
 
 #[test]
-fn run_n_0_1_16_17() {
-    for (n, good) in [(0, false), (1, true), (16, true), (17, false)] {
+fn run_n_0_1_32_33() {
+    for (n, good) in [(0, false), (1, true), (32, true), (33, false)] {
         let (reader, writer) = (Reader::fresh(Layout::Panel, panel(n)), Writer::fresh(panel(n)));
         assert_eq!(reader.is_ok(), good);
         assert_eq!(writer.is_ok(), good);
@@ -148,5 +148,14 @@ fn run_n_0_1_16_17() {
             assert_eq!(reader.unwrap_err(), Refusal::Setup);
             assert_eq!(writer.unwrap_err(), Refusal::Setup);
         }
+    }
+}
+
+/// The cranes' reader keeps document 01's cases as they were.
+#[test]
+fn run_n_0_1_16_17_of_a_crane() {
+    for (n, good) in [(0, false), (1, true), (16, true), (17, false), (32, false)] {
+        let reader = Reader::fresh(Layout::Crane, panel(n).known_to(Layout::Crane));
+        assert_eq!(reader.err(), (!good).then_some(Refusal::Setup), "n {n}");
     }
 }

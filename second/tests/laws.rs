@@ -142,7 +142,7 @@ fn all_slots_land_in_the_most_events() {
     let mut writer = Writer::fresh(setup).unwrap();
     let frame = [1, 1, 1, 1, 1, 1].repeat(SLOTS);
     let mut buffer = [0; LARGEST_FRAME];
-    assert_eq!((MOST_EVENTS, LARGEST_FRAME), (112, 896));
+    assert_eq!((MOST_EVENTS, LARGEST_FRAME), (224, 1_792));
     assert_eq!(writer.write(&frame, &mut buffer, 0).unwrap().events as usize, MOST_EVENTS);
     let mut reader = Reader::fresh(Layout::Panel, setup).unwrap();
     reader.run(&buffer).unwrap();

@@ -23,7 +23,7 @@ fn any_reader(layout: Layout, mode: Mode) -> Reader {
 fn a_writer_that_is_not_well_formed() {
     let breaks: [fn(&mut Writer); 21] = [
         |w| w.setup.slots = 0,
-        |w| w.setup.slots = 17,
+        |w| w.setup.slots = 33,
         |w| w.setup.slots = 1,
         |w| w.setup.slots = (1 << 32) + 2,
         |w| w.setup.largest[X] = 32_768,
@@ -57,7 +57,7 @@ fn a_writer_that_is_not_well_formed() {
 #[test]
 fn a_reader_that_is_not_well_formed() {
     let breaks: [fn(&mut Reader); 13] = [
-        |r| r.setup.slots = 17,
+        |r| r.setup.slots = r.layout.slots() as u64 + 1,
         |r| r.setup.slots = 1,
         |r| r.setup.largest[PRESSURE] = 0,
         |r| r.current = SlotNumber(2),
@@ -65,7 +65,7 @@ fn a_reader_that_is_not_well_formed() {
         |r| r.shown[0].numbers[Y] = 4001,
         |r| r.pending[0].id = TrackingId(70_000),
         |r| r.pending[1].numbers[X] = u32::MAX,
-        |r| r.pending[15].id = TrackingId(0),
+        |r| r.pending[r.layout.slots() - 1].id = TrackingId(0),
         |r| r.shown[2].numbers[PRESSURE] = 1,
         |r| {
             r.mode = Mode::Dropped;

@@ -236,8 +236,8 @@ fn setup_case(page: &mut [u8], out: Out, n: usize) -> Out {
 fn setup_cases(page: &mut [u8], out: Out) -> Out {
     let a = setup_case(page, out, 0);
     let b = setup_case(page, a, 1);
-    let c = setup_case(page, b, 16);
-    setup_case(page, c, 17)
+    let c = setup_case(page, b, 32);
+    setup_case(page, c, 33)
 }
 
 fn say_name(page: &mut [u8], out: Out, name: &[u8]) -> Out {

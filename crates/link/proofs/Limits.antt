@@ -1,4 +1,4 @@
--- Of any answer of `write`, accepted or refused: the changed-slot number's ones are the changed slots, bit s for slot s, and there are 112 events and 896
+-- Of any answer of `write`, accepted or refused: the changed-slot number's ones are the changed slots, bit s for slot s, and there are 224 events and 1_792
 -- bytes at most. Cited by docs/PROMISES.md. Assumes nothing.
 use mathlib.Core.Path.{_≡_, sym, ap, _∙_, subst}
 use mathlib.Core.List.{List, []}
@@ -34,10 +34,10 @@ module _ (s : WriterState) (f : List ℤ) (at : ℕ) (buf : List ℕ) (r : Writt
   pub changed-bits : (k : ℕ) → bitOf k (r .changed) ≡ oneUnless (sameSlot (getD (tableOf (s .table)) k []) (getD (tableOf (r .state .table)) k []))
   changed-bits k = ap (bitOf k) changed-is ∙ mask-bit (tableOf (s .table)) (tableOf (r .state .table)) k
 
-  -- At most 112 events, so 896 bytes, and a need of 896 bytes at most.
-  pub most : (r .count ≤ 112) × (8 * r .count ≤ 896) × (r .need ≤ 896)
+  -- At most 224 events, so 1_792 bytes, and a need of 1_792 bytes at most.
+  pub most : (r .count ≤ 224) × (8 * r .count ≤ 1_792) × (r .need ≤ 1_792)
   most =
       let m = M.limits base (seen s) f at (length buf) base-good in
-      let count : r .count ≤ 112 = subst (λ (x : Written). x .count ≤ 112) (sym (w .0)) (m .0) in
-      let need : r .need ≤ 896 = subst (λ (x : Written). x .need ≤ 896) (sym (w .0)) (m .1) in
+      let count : r .count ≤ 224 = subst (λ (x : Written). x .count ≤ 224) (sym (w .0)) (m .0) in
+      let need : r .need ≤ 1_792 = subst (λ (x : Written). x .need ≤ 1_792) (sym (w .0)) (m .1) in
       (count, omega arith, need)

@@ -1,5 +1,4 @@
--- The theorems at the product's layout, at the cranes' beside it (K1), and, so that nothing stands in the way of K7, at 32 records. Cited by link.
--- Assumes nothing.
+-- The theorems at the product's layout, and at the cranes' beside it (K1). Cited by link. Assumes nothing.
 use mathlib.Core.Path.{_≡_, refl}
 use mathlib.Core.List.{List}
 use Prim.Native.Nat.{_*_, _≤_}
@@ -18,14 +17,14 @@ use Rattle.model.specs.Calls.{freshWriterCall, freshReaderCall, writerAf
 use Rattle.model.specs.Shift.{FrameCall, wroteAll, writtenAll}
 use Rattle.model.specs.Narrow.{craneSetup, Shorter, shortRan}
 
--- The product's layout is good, and a frame has 112 events and 896 bytes at most.
+-- The product's layout is good, and a frame has 224 events and 1,792 bytes at most.
 pub base-good : T (goodLayout base)
 base-good = tt
 
-pub base-most : (s : WriterState) (f : List ℤ) → T (writerGood base s) → T (valuesGood (panelOf base (s .setup)) f) → length (frameEvents (panelOf base (s .setup)) (s .writer) f) ≤ 112
+pub base-most : (s : WriterState) (f : List ℤ) → T (writerGood base s) → T (valuesGood (panelOf base (s .setup)) f) → length (frameEvents (panelOf base (s .setup)) (s .writer) f) ≤ 224
 base-most s f w v = frame-limit base s f tt w v
 
-base-bytes : 8 * mostEvents base ≡ 896
+base-bytes : 8 * mostEvents base ≡ 1_792
 base-bytes = refl
 
 -- The cranes' layout is the shorter one, for every setup with no more slots than they have records.
@@ -45,15 +44,3 @@ module _ (u : Setup) (g : T (setupGood base u)) (few : u .slots ≤ craneRecords
       runCall crane (freshReaderCall crane (craneSetup u) .state) bs ≡ shortRan base crane (craneSetup u) (wroteAll base w qs) (eventsOf bs))
   unfolding crane-shorter
   crane-shows qs = narrow-fresh base crane u (craneSetup u) qs base-good g crane-shorter
-
--- 32 records: 224 events at most, and what is written reads back.
-abbrev wide : Layout
-wide = record { records = 32; axes = base .axes }
-
-wide-most : (s : WriterState) (f : List ℤ) → T (writerGood wide s) → T (valuesGood (panelOf wide (s .setup)) f) → length (frameEvents (panelOf wide (s .setup)) (s .writer) f) ≤ 224
-wide-most s f w v = frame-limit wide s f tt w v
-
-wide-reads-back : (s : WriterState) (f : List ℤ) → T (writerGood wide s) → T (valuesGood (panelOf wide (s .setup)) f)
-    → read (panelOf wide (s .setup)) (follow (s .writer .table) (s .writer .table) (s .writer .current)) (eventsOf (bytesOf (frameEvents (panelOf wide (s .setup)) (s .writer) f)))
-    ≡ (let w = writerAfter (panelOf wide (s .setup)) (s .writer) f in follow (w .table) (w .table) (w .current))
-wide-reads-back s f w v = frame-reads-back wide s f tt w v

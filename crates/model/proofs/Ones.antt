@@ -95,7 +95,7 @@ fewest-le c old new = elim (eqb (changedNumbers old new) 0) as (λ b. cond b 0 (
   | false ↦ omega arith
 ]
 
--- A frame has 1 + kn + (n - 1) events at most, where a slot has k numbers: 112 at k = 6 and n = 16.
+-- A frame has 1 + kn + (n - 1) events at most, where a slot has k numbers: 224 at k = 6 and n = 32.
 pub event-limit : (p : Panel) (c : ℕ) (old new : Table) → c < p .slots → T (goodTable p old) → T (goodTable p new)
     → length (eventsSent p c old new) ≤ 1 + p .slots * length (p .fields) + (p .slots - 1)
 event-limit p c old new l g h =

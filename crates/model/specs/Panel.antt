@@ -112,9 +112,9 @@ axisCodes axes = map (λ (a : Axis). a .code) axes
 abbrev pub goodLayout : Layout → Bool
 goodLayout l = ltb (l .records + l .records) idCount && codesDiffer (slotCode ∷ idField .code ∷ axisCodes (l .axes)) && axesCarried (l .axes)
 
--- How many slot records a table of the product's layout holds.
+-- How many slot records a table of the product's layout holds: a panel has so many slots at most (K7).
 abbrev pub records : ℕ
-records = 16
+records = 32
 
 -- How many numbers a slot has in it: id, x, y, pressure, and the contact's larger and smaller size.
 abbrev pub perSlot : ℕ
@@ -138,7 +138,7 @@ majorAxis = record { code = 0x30; most = 255; least = 0 }
 abbrev pub minorAxis : Axis
 minorAxis = record { code = 0x31; most = 255; least = 0 }
 
--- The product's layout: sixteen records of an id, x, y, pressure and both sizes.
+-- The product's layout: 32 records of an id, x, y, pressure and both sizes.
 abbrev pub base : Layout
 base = record { records = records; axes = xAxis ∷ yAxis ∷ pressureAxis ∷ majorAxis ∷ minorAxis ∷ [] }
 

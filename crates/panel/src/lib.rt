@@ -9,7 +9,7 @@ ghost use Rattle.panel.specs.Seen.{rowOf, slotOf, tableOf, setupOf, fiel
 use common::TrackingId;
 
 // How many slot records a table holds.
-pub const RECORDS: usize = 16;
+pub const RECORDS: usize = 32;
 
 // How many numbers a slot has.
 pub const PER_SLOT: usize = 6;

@@ -13,6 +13,9 @@ use common::SlotNumber;
 use panel::RECORDS;
 use panel::Slot;
 
+// The changed slots are a number of so many bits, of which each names a slot.
+const SLOTS: u32 = RECORDS as u32;
+
 // A number of a slot by its code, as it was and as it is; an id by its bits.
 struct Change {
     code: u16,
@@ -115,7 +118,7 @@ pub fn send_frame(
     at: usize,
     old: [Slot; RECORDS],
     new: [Slot; RECORDS],
-    others: u16,
+    others: u32,
     current: SlotNumber,
 ) -> SlotNumber
     requires { ⌜ (current .0 < records) × (at + length (bytesSent (sentBy old new others (current .0) ++ sendReport ∷ [])) ≤ length (now b)) ⌝ }
@@ -129,8 +132,8 @@ pub fn send_frame(
     let mut m = others;
     let mut last = c;
     while m != 0 {
-        let z = u16::trailing_zeros(m);
-        let s = (z % 16) as usize;
+        let z = u32::trailing_zeros(m);
+        let s = (z % SLOTS) as usize;
         m = m & (m - 1);
         last = s;
         let k = put_opened(&mut b[end..], SlotNumber(s), old[s], new[s]);

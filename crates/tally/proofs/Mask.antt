@@ -59,7 +59,7 @@ module _ (old new : List Slot) (n : ℕ) (e : sameFrom n old new) where
   pub numbers-rest : numbersFrom old new n ≡ 0
   numbers-rest = ap (changedNumbers (tableOf (drop n old))) (sym e) ∙ changedNumbers-self (tableOf (drop n old))
 
--- The bits from slot s on are 16 at most.
+-- The bits from slot s on are as many as there are records, at most.
 pub mask-room : (old new : List Slot) (s : ℕ) → length old ≡ records → maskFrom old new s < 2 ^ records
 mask-room old new s e =
     let n : length (tableOf (drop s old)) ≤ records = omega (arith, length-map (drop s old) slotOf, length-drop s old) in

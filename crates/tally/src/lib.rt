@@ -45,14 +45,14 @@ fn differ(a: Slot, b: Slot) -> u32
                     + (unlike(a.major, b.major) + unlike(a.minor, b.minor)))))
 }
 
-fn some(d: u32) -> u16
+fn some(d: u32) -> u32
     ensures { λ r. ⌜ (r ≤ 1) × (r ≡ oneUnless (eqb d 0)) ⌝ }
 {
-    unlike(d, 0) as u16
+    unlike(d, 0)
 }
 
 struct Compared {
-    mask: u16,
+    mask: u32,
     numbers: u32,
 }
 
@@ -61,7 +61,7 @@ fn compare(n: usize, old: [Slot; RECORDS], new: [Slot; RECORDS]) -> Compared
     requires { ⌜ (n ≤ records) × sameFrom n old new ⌝ }
     ensures { λ r. ⌜ (r .mask ≡ changedMask (tableOf old) (tableOf new)) × (r .numbers ≡ changedNumbers (tableOf old) (tableOf new)) × (r .numbers ≤ perSlot * records) ⌝ }
 {
-    let mut mask: u16 = 0;
+    let mut mask: u32 = 0;
     let mut numbers: u32 = 0;
     let mut s = n;
     while 0 < s {
@@ -74,21 +74,21 @@ fn compare(n: usize, old: [Slot; RECORDS], new: [Slot; RECORDS]) -> Compared
 }
 
 // The changed slots without the current one, which is sent first and not opened.
-fn without_current(mask: u16, current: SlotNumber) -> u16
+fn without_current(mask: u32, current: SlotNumber) -> u32
     requires { ⌜ current .0 < records ⌝ }
     ensures { λ r. ⌜ r ≡ mask - bitAnd mask (2 ^ current .0) ⌝ }
 {
-    mask - (mask & (1u16 << current.0))
+    mask - (mask & (1u32 << current.0))
 }
 
-fn ones(mask: u16) -> u32
+fn ones(mask: u32) -> u32
     ensures { λ r. ⌜ (r ≤ records) × (r ≡ onesOf mask) ⌝ }
 {
-    u16::count_ones(mask)
+    u32::count_ones(mask)
 }
 
 // The number of events: one for each changed number and each slot that is opened, and the report.
-fn event_count(numbers: u32, others: u16) -> usize
+fn event_count(numbers: u32, others: u32) -> usize
     requires { ⌜ numbers ≤ perSlot * records ⌝ }
     ensures { λ r. ⌜ (r ≡ cond (eqb numbers 0) 0 (1 + numbers + onesOf others)) × (r ≤ 1 + perSlot * records + records) ⌝ }
 {
@@ -100,8 +100,8 @@ fn event_count(numbers: u32, others: u16) -> usize
 }
 
 pub struct Changed {
-    pub slots: u16,
-    pub others: u16,
+    pub slots: u32,
+    pub others: u32,
     pub events: usize,
 }
 

@@ -30,7 +30,7 @@ pub struct Written {
     pub verdict: Verdict,
     pub state: WriterState,
     pub count: usize,
-    pub changed: u16,
+    pub changed: u32,
     pub need: usize,
 }
 
@@ -116,7 +116,7 @@ fn taken(
     current: SlotNumber,
     counter: u32,
     count: usize,
-    changed: u16,
+    changed: u32,
 ) -> Written
     ensures { λ r. ⌜ r ≡ writtenBy (record { setup = setup; table = table; current = current; counter = counter }) count changed ⌝ }
 {

@@ -2,7 +2,9 @@
 
 use super::Maker;
 use crate::reader::{Mode, Reader};
-use crate::table::{Layout, Setup, Slot, SlotNumber, Table, TrackingId, EMPTY, LIMITS, NUMBERS, PRESSURE, X, Y};
+use crate::table::{
+    Layout, Setup, Slot, SlotNumber, Table, TrackingId, EMPTY, LIMITS, NARROW, NUMBERS, PRESSURE, X, Y,
+};
 use crate::writer::Writer;
 
 /// What is tried where one of a state's largest values is wrong.
@@ -53,7 +55,7 @@ impl Maker {
     /// One number of a table broken, within n or past it.
     fn break_table(&mut self, layout: Layout, setup: &Setup, table: &mut Table, parts: Parts) {
         let n = setup.slots as usize;
-        let s = self.random.below(setup.slots) as usize;
+        let s = self.slot(setup.slots) as usize;
         let i = self.random.below(layout.numbers() as u64) as usize;
         match self.random.below(3) {
             0 => {
@@ -114,14 +116,14 @@ impl Maker {
 
     pub(super) fn break_reader(&mut self, reader: &mut Reader) {
         let (layout, setup) = (reader.layout, reader.setup);
-        match self.random.below(13) {
+        match self.random.below(14) {
             0..=3 => {
                 self.break_setup(layout, &mut reader.setup, &mut reader.current);
                 if self.random.once_in(4) {
                     (reader.shown, reader.pending) = (EMPTY, EMPTY);
                 }
             }
-            4 if setup.slots > 1 => {
+            4 | 13 if setup.slots > 1 => {
                 self.tag("broken: id repeated in the shown table");
                 self.repeat_id(&mut reader.shown, setup.slots);
                 reader.pending = reader.shown;
@@ -173,7 +175,7 @@ impl Maker {
         self.tag("broken: pending differs while lost");
         reader.mode = self.random.pick(&[Mode::Dropped, Mode::Stale]);
         reader.pending = reader.shown;
-        let slot = &mut reader.pending[self.random.below(reader.setup.slots) as usize];
+        let slot = &mut reader.pending[self.slot(reader.setup.slots) as usize];
         match self.random.below(reader.layout.slot_numbers() as u64) as usize {
             0 if slot.id.is_live() => slot.id = TrackingId::UNUSED,
             0 => slot.id = TrackingId(40_000),
@@ -185,7 +187,14 @@ impl Maker {
     pub(super) fn repeat_id(&mut self, table: &mut Table, n: u64) {
         let any = self.random.below(n);
         let from = self.random.pick(&[any, any, 0, n - 1]);
-        let to = (from + self.random.from_to(1, n - 1)) % n;
+        let to = match NARROW as u64 {
+            // Across the halves more often than chance has it.
+            edge if n > edge && from < edge && self.random.once_in(2) => self.random.from_to(edge, n - 1),
+            _ => (from + self.random.from_to(1, n - 1)) % n,
+        };
+        if from.min(to) < NARROW as u64 && NARROW as u64 <= from.max(to) {
+            self.tag("ids: one in both halves");
+        }
         if !table[from as usize].id.is_live() || self.random.once_in(4) {
             table[from as usize].id = TrackingId(self.random.pick(&[0, 7, 65_535]));
         }

@@ -59,7 +59,7 @@ impl Maker {
     /// An event for this reader; a rough one may make it lose.
     pub(crate) fn event(&mut self, reader: &Reader, rough: bool) -> Event {
         match self.random.below(19) {
-            0..=2 => Event::abs(ABS_MT_SLOT, self.random.below(reader.setup.slots) as i32),
+            0..=2 => Event::abs(ABS_MT_SLOT, self.slot(reader.setup.slots) as i32),
             3 => Event::abs(ABS_MT_TRACKING_ID, -1),
             4 => Event::abs(ABS_MT_TRACKING_ID, self.good_id(reader)),
             5..=12 => self.number_event(reader),
@@ -113,7 +113,7 @@ impl Maker {
 
     fn bad_slot_value(&mut self, reader: &Reader) -> i32 {
         let (n, most) = (reader.setup.slots as i32, reader.layout.slots() as i32);
-        let value = self.random.pick(&[n, n, n, -1, -1, most, 256, 65_536, i32::MIN, i32::MAX]);
+        let value = self.random.pick(&[n, n, n, -1, -1, most - 1, most, 256, 65_536, i32::MIN, i32::MAX]);
         value.max(if value < 0 { value } else { n })
     }
 

@@ -4,7 +4,7 @@ use super::Maker;
 use crate::table::{Table, TrackingId, LARGEST_ID, SLOTS};
 
 /// How many neighbours a table's ids are taken from, so that there are gaps between them.
-const WINDOW: u32 = 24;
+const WINDOW: u32 = SLOTS as u32 + 8;
 /// Steps between far ids are powers of two from this one on. Neighbours differ in lower bits anyway.
 const LOWEST_BIT: u64 = 4;
 const HIGHEST_BIT: u64 = 15;
@@ -68,7 +68,7 @@ impl Maker {
     /// A counter that comes to the table's ids, or to one that only looks like theirs.
     pub(super) fn counter(&mut self, ids: Ids, table: &Table) -> u32 {
         let counter = match ids {
-            Ids::Near { base } => base + COUNT - 3 + self.random.below(30) as u32,
+            Ids::Near { base } => base + COUNT - 3 + self.random.below(u64::from(WINDOW) + 6) as u32,
             Ids::Far { base, step } => {
                 let live: Vec<i32> = table.iter().map(|slot| slot.id.0).filter(|id| *id >= 0).collect();
                 let met = if live.is_empty() { base } else { self.random.pick(&live) as u32 };

@@ -3,7 +3,7 @@
 use super::Maker;
 use crate::reader::{Mode, Reader};
 use crate::script::Call;
-use crate::table::{Layout, Setup, Slot, SlotNumber, TrackingId, LARGEST_ID};
+use crate::table::{Layout, Setup, Slot, SlotNumber, TrackingId, LARGEST_ID, NARROW};
 
 impl Maker {
     pub(super) fn load(&mut self, layout: Layout) -> Call {
@@ -23,7 +23,7 @@ impl Maker {
             let ids = self.ids();
             self.any_table(layout, &setup, ids)
         };
-        let mut current = SlotNumber(self.random.below(setup.slots));
+        let mut current = SlotNumber(self.slot(setup.slots));
         let mut image = image_of(layout, &table[..setup.slots as usize]);
         let is_good = self.random.once_in(3);
         if is_good {
@@ -48,10 +48,10 @@ impl Maker {
 
     fn break_image(&mut self, layout: Layout, setup: &Setup, current: &mut SlotNumber, image: &mut Vec<i32>) {
         let (n, width) = (setup.slots, layout.slot_numbers());
-        let s = width * self.random.below(n) as usize;
+        let s = width * self.slot(n) as usize;
         // A first break may have cut it.
         let whole = image.len() == width * n as usize;
-        match self.random.below(9) {
+        match self.random.below(10) {
             0 if whole => {
                 self.tag("load: id");
                 image[s] = self.bad_id();
@@ -63,11 +63,15 @@ impl Maker {
                 let i = self.random.below(layout.numbers() as u64) as usize;
                 image[s + 1 + i] = self.bad_number(setup.largest[i]);
             }
-            5 if whole && n > 1 => {
+            5 | 9 if whole && n > 1 => {
                 self.tag("load: repeated id");
                 let other = (s + width * self.random.from_to(1, n - 1) as usize) % image.len();
                 image[s] = self.random.pick(&[0, 5, 65_535, image[s].max(0)]);
                 image[other] = image[s];
+                let edge = width * NARROW;
+                if s.min(other) < edge && edge <= s.max(other) {
+                    self.tag("ids: one in both halves");
+                }
             }
             6 => {
                 self.tag("load: current slot");
@@ -117,7 +121,7 @@ impl Maker {
             self.bad_slot(layout, n)
         } else {
             self.tag("ask: below n");
-            self.random.below(n)
+            self.slot(n)
         };
         if self.random.once_in(6) {
             self.end_id(&mut reader, slot);

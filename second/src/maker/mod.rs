@@ -140,6 +140,19 @@ mod tests {
         assert_ne!(script(1), script(2));
     }
 
+    /// Few slots try most rules best; each number of slots comes, and the most often.
+    #[test]
+    fn small_panels_stay_frequent() {
+        let mut maker = Maker::new(5);
+        let mut counts = [0; 33];
+        for _ in 0..4_000 {
+            counts[maker.setup(Layout::Panel).slots as usize] += 1;
+            assert!(maker.setup(Layout::Crane).slots <= 16);
+        }
+        assert!(counts[1..].iter().all(|count| *count > 10), "{counts:?}");
+        assert!(counts[1..=3].iter().sum::<u32>() > 1_600 && counts[32] > 500, "{counts:?}");
+    }
+
     #[test]
     fn comments_say_what_is_true_of_their_line() {
         let mut maker = Maker::new(3);

@@ -1,7 +1,7 @@
 //! Setups and numbers: good ones, those at the edges, and those just outside.
 
 use super::Maker;
-use crate::table::{Layout, Setup, LIMITS, MAJOR, MINOR, NUMBERS, PRESSURE, X, Y};
+use crate::table::{Layout, Setup, LIMITS, MAJOR, MINOR, NARROW, NUMBERS, PRESSURE, SLOTS, X, Y};
 
 /// What is tried where one of a setup's largest values is wrong.
 const LARGEST: [&str; NUMBERS] =
@@ -10,17 +10,33 @@ const LARGEST: [&str; NUMBERS] =
 impl Maker {
     /// A good setup, now and then at an end of a range.
     pub(crate) fn setup(&mut self, layout: Layout) -> Setup {
-        let most = layout.slots() as u64;
-        let slots = match self.random.below(10) {
-            0..=3 => self.random.from_to(1, 3),
-            4 | 5 => most,
-            _ => self.random.from_to(1, most),
-        };
-        let mut setup = Setup { slots, ..Setup::ZEROS };
+        let mut setup = Setup { slots: self.good_n(layout), ..Setup::ZEROS };
         for (largest, limit) in setup.largest.iter_mut().zip(LIMITS).take(layout.numbers()) {
             *largest = self.largest(limit);
         }
         setup
+    }
+
+    /// Few slots mostly, which try what is not of the width at its best; then both sides of a crane's edge, and the most.
+    fn good_n(&mut self, layout: Layout) -> u64 {
+        let (most, narrow) = (layout.slots() as u64, NARROW as u64);
+        match (layout, self.random.below(12)) {
+            (_, 0..=4) => self.random.from_to(1, 3),
+            (_, 5 | 6) => most,
+            (Layout::Crane, _) | (_, 7 | 8) => self.random.from_to(1, narrow),
+            (_, 9) => self.random.pick(&[narrow, narrow + 1]),
+            (_, 10) => most - 1,
+            _ => self.random.from_to(narrow + 1, most),
+        }
+    }
+
+    /// A slot below n. Of a wide panel it is often one that no crane has, and the last of all.
+    pub(super) fn slot(&mut self, n: u64) -> u64 {
+        if n > NARROW as u64 && self.random.once_in(2) {
+            let high = self.random.from_to(NARROW as u64, n - 1);
+            return self.random.pick(&[high, high, n - 1]);
+        }
+        self.random.below(n)
     }
 
     /// A panel's setup that a crane knows so.
@@ -46,17 +62,21 @@ impl Maker {
         let good = self.setup(layout);
         if self.random.once_in(3) {
             self.tag("setup: good");
+            if good.slots == layout.slots() as u64 {
+                self.tag("setup: the most slots");
+            }
             return good;
         }
         let mut setup = good;
         for _ in 0..self.random.pick(&[1, 1, 1, 2]) {
-            match self.random.below(1 + layout.numbers() as u64) as usize {
-                0 => {
+            match self.random.below(2 + layout.numbers() as u64) as usize {
+                0 | 1 => {
                     self.tag("setup: n");
                     setup.slots = self.bad_n(layout, good.slots);
+                    self.tag_width(layout, setup.slots);
                 }
                 which => {
-                    let i = which - 1;
+                    let i = which - 2;
                     self.tag(LARGEST[i]);
                     setup.largest[i] = self.bad_largest(good.largest[i], LIMITS[i]);
                 }
@@ -65,11 +85,14 @@ impl Maker {
         setup
     }
 
-    /// Sums with 2^8, 2^16 and 2^32 are good numbers again where they are cut to fewer bits.
+    /// Sums with 2^8, 2^16 and 2^32 are good numbers again where they are cut to fewer bits. A crane takes no n of a wide panel.
     pub(crate) fn bad_n(&mut self, layout: Layout, good: u64) -> u64 {
         let next = layout.slots() as u64 + 1;
-        if self.random.once_in(3) {
-            return self.random.pick(&[0, next]);
+        if layout == Layout::Crane && self.random.once_in(3) {
+            return self.random.from_to(next, SLOTS as u64);
+        }
+        if self.random.once_in(2) {
+            return self.random.pick(&[0, next, next]);
         }
         self.random.pick(&[
             next + 1,
@@ -81,6 +104,16 @@ impl Maker {
             (1 << 63) + good,
             u64::MAX,
         ])
+    }
+
+    /// What an n that is too large tries of the width.
+    fn tag_width(&mut self, layout: Layout, n: u64) {
+        if n == layout.slots() as u64 + 1 {
+            self.tag("setup: one slot too many");
+        }
+        if layout == Layout::Crane && (NARROW as u64 + 1..=SLOTS as u64).contains(&n) {
+            self.tag("setup: a wide panel's n");
+        }
     }
 
     /// Cut to 8 or 16 bits, or without its sign, some are the good number again.

@@ -1,10 +1,10 @@
 //! Calls that read records: runs of any length, and single ones.
 
 use super::Maker;
-use crate::events::{Event, KNOWN_TYPES, RECORD};
+use crate::events::{Event, ABS_MT_SLOT, KNOWN_TYPES, RECORD};
 use crate::reader::{Mode, Reader};
 use crate::script::{reader_numbers, Call, MOST_NUMBERS};
-use crate::table::{live_ids_differ, Layout};
+use crate::table::{live_ids_differ, Layout, NARROW};
 use crate::writer::{Writer, LARGEST_FRAME};
 
 /// A run of more records is rare, and a long one.
@@ -154,8 +154,10 @@ impl Maker {
         self.tag(if rough { "one: rough" } else { "one: calm" });
         let event = if rough {
             self.rough_event(&reader)
-        } else if !live_ids_differ(&reader.pending) && self.random.once_in(2) {
+        } else if !live_ids_differ(&reader.pending) && !self.random.once_in(3) {
             Event::REPORT
+        } else if reader.setup.slots > NARROW as u64 && self.random.once_in(6) {
+            Event::abs(ABS_MT_SLOT, reader.setup.slots as i32 - 1)
         } else if kept && reader.mode == Mode::Following && self.random.once_in(2) {
             // Not where it would be ignored: each is to be named in its turn.
             self.next_unknown(layout)

@@ -35,7 +35,7 @@ impl Maker {
                 slot.numbers[PRESSURE] = self.pressing(setup.largest[PRESSURE]);
             }
         }
-        let current = SlotNumber(self.random.below(setup.slots));
+        let current = SlotNumber(self.slot(setup.slots));
         Writer { setup, current, counter: self.counter(ids, &table), table }
     }
 
@@ -46,7 +46,7 @@ impl Maker {
         let mut reader = Reader {
             layout,
             setup,
-            current: SlotNumber(self.random.below(setup.slots)),
+            current: SlotNumber(self.slot(setup.slots)),
             mode: self.random.pick(&[Mode::Following, Mode::Following, Mode::Dropped, Mode::Stale]),
             shown,
             pending: shown,
@@ -61,14 +61,14 @@ impl Maker {
     fn change_pending(&mut self, reader: &mut Reader) {
         let setup = reader.setup;
         for _ in 0..self.random.from_to(1, 4) {
-            let s = self.random.below(setup.slots) as usize;
+            let s = self.slot(setup.slots) as usize;
             match self.random.below(2 + reader.layout.numbers() as u64) as usize {
                 0 => reader.pending[s].id = TrackingId(self.random.below(65_536) as i32),
                 1 => reader.pending[s].id = TrackingId::UNUSED,
                 which => reader.pending[s].numbers[which - 2] = self.number(setup.largest[which - 2]),
             }
         }
-        if setup.slots > 1 && self.random.once_in(2) {
+        if setup.slots > 1 && !self.random.once_in(3) {
             self.tag("allowed: id repeated in the pending table");
             for _ in 0..self.random.pick(&[1, 1, 2, 3]) {
                 self.repeat_id(&mut reader.pending, setup.slots);

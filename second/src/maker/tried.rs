@@ -6,7 +6,9 @@ pub const CRANE: &str = "crane";
 /// What is tried with the panel's reader, and with a crane's too.
 const READER: &[&str] = &[
     "setup: good",
+    "setup: the most slots",
     "setup: n",
+    "setup: one slot too many",
     "setup: largest x",
     "setup: largest y",
     "setup: largest pressure",
@@ -80,6 +82,7 @@ const OTHERS: &[&str] = &[
     "frame: all begin",
     "frame: all lift",
     "frame: any good one",
+    "frame: the upper half alone",
     "frame: junk in slots of kind 0",
     "frame: wrong length",
     "frame: four numbers a slot",
@@ -91,6 +94,7 @@ const OTHERS: &[&str] = &[
     "frame: kind 1, pressure 1",
     "frame: kind 2, pressure 0",
     "frame: kind 2, pressure 1",
+    "ids: one in both halves",
     "ids: near the wrap",
     "ids: far apart",
     "ids: a block without a gap",
@@ -130,7 +134,7 @@ const OTHERS: &[&str] = &[
 ];
 
 /// What is tried with a crane's reader alone.
-const CRANES: &[&str] = &["record: a touch size"];
+const CRANES: &[&str] = &["setup: a wide panel's n", "record: a touch size"];
 
 /// Whether a comment may say so.
 pub(super) fn is_tried(tag: &str) -> bool {

@@ -4,7 +4,7 @@ use super::loads::resized;
 use super::Maker;
 use crate::events::RECORD;
 use crate::script::{Call, LARGEST_BUFFER};
-use crate::table::{Layout, Setup, MAJOR, MINOR, NUMBERS, PRESSURE, SLOTS, SLOT_NUMBERS, X, Y};
+use crate::table::{Layout, Setup, Slot, MAJOR, MINOR, NARROW, NUMBERS, PRESSURE, SLOTS, SLOT_NUMBERS, X, Y};
 use crate::writer::{Writer, LARGEST_FRAME};
 
 /// What [`Maker::press_least`] tries, by kind and pressure.
@@ -44,11 +44,7 @@ impl Maker {
     /// A frame with good numbers for this writer, whose state may be broken.
     pub(crate) fn frame(&mut self, writer: &Writer) -> Vec<i32> {
         let n = writer.setup.slots.min(SLOTS as u64) as usize;
-        let mut frame = Vec::with_capacity(SLOT_NUMBERS * n);
-        for slot in &writer.table[..n] {
-            frame.push(i32::from(slot.id.is_live()));
-            frame.extend(slot.numbers.map(|number| number as i32));
-        }
+        let mut frame = equal(&writer.table[..n]);
         if n == 0 {
             return frame;
         }
@@ -59,6 +55,10 @@ impl Maker {
             10 | 11 => self.change_sizes(&writer.setup, &mut frame),
             _ => self.change_all(&writer.setup, &mut frame),
         }
+        if n > NARROW && self.random.once_in(6) {
+            self.tag("frame: the upper half alone");
+            frame[..NARROW * SLOT_NUMBERS].copy_from_slice(&equal(&writer.table[..NARROW]));
+        }
         self.press(&writer.setup, &mut frame);
         if self.random.once_in(2) {
             self.put_junk(&mut frame);
@@ -68,7 +68,7 @@ impl Maker {
 
     /// Where the numbers of one of a frame's slots begin.
     fn any_row(&mut self, frame: &[i32]) -> usize {
-        SLOT_NUMBERS * self.random.below((frame.len() / SLOT_NUMBERS) as u64) as usize
+        SLOT_NUMBERS * self.slot((frame.len() / SLOT_NUMBERS) as u64) as usize
     }
 
     fn change_one(&mut self, setup: &Setup, frame: &mut [i32]) {
@@ -130,10 +130,11 @@ impl Maker {
                 3 => 0,
                 _ => self.random.pick(&[0, 1, 1, 2]),
             };
-            for (number, largest) in wanted[1..].iter_mut().zip(setup.largest) {
+            for (i, (number, largest)) in wanted[1..].iter_mut().zip(setup.largest).enumerate() {
                 *number = match which {
                     0 | 1 if *number < largest.min(i32::MAX as u32) as i32 => *number + 1,
-                    0 | 1 => 0,
+                    // A contact presses: from 0 its pressure might be made the old one again.
+                    0 | 1 => i32::from(i == PRESSURE),
                     4 => self.number(largest) as i32,
                     _ => *number,
                 };
@@ -168,7 +169,7 @@ impl Maker {
     pub(crate) fn press_least(&mut self, frame: &mut [i32]) {
         let rows = frame.len() / SLOT_NUMBERS;
         for _ in 0..self.random.pick(&[1, 1, 1, 2, 3]).min(rows) {
-            let s = SLOT_NUMBERS * self.random.below(rows as u64) as usize;
+            let s = SLOT_NUMBERS * self.slot(rows as u64) as usize;
             let (kind, pressure) = (self.random.below(3) as usize, self.random.below(2) as usize);
             self.tag(LEAST[kind][pressure]);
             (frame[s], frame[s + 1 + PRESSURE]) = (kind as i32, pressure as i32);
@@ -211,9 +212,9 @@ impl Maker {
 
     /// Another count of numbers than this: fewer, more, and those of the most slots.
     fn wrong_frame(&mut self, length: usize) -> usize {
-        let (row, most) = (SLOT_NUMBERS, SLOTS * SLOT_NUMBERS);
-        let wrong =
-            self.random.pick(&[0, 1, row - 1, row, length + 1, length + row - 1, length + row, most, most + row]);
+        let (row, narrow, most) = (SLOT_NUMBERS, NARROW * SLOT_NUMBERS, SLOTS * SLOT_NUMBERS);
+        let near = self.random.pick(&[length + 1, length + row - 1, length + row]);
+        let wrong = self.random.pick(&[0, 1, row - 1, row, near, near, near, narrow, most, most + row]);
         if wrong == length {
             length + row
         } else {
@@ -285,4 +286,13 @@ impl Maker {
             _ => self.random.below(60),
         }
     }
+}
+
+/// The rows of a frame that changes none of these slots.
+fn equal(slots: &[Slot]) -> Vec<i32> {
+    let row = |slot: &Slot| {
+        let numbers = slot.numbers.map(|number| number as i32);
+        [i32::from(slot.id.is_live())].into_iter().chain(numbers)
+    };
+    slots.iter().flat_map(row).collect()
 }

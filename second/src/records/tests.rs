@@ -70,7 +70,7 @@ fn every_byte_string_comes_back_in_any_pieces() {
 fn more_than_a_buffer_comes_back() {
     let mut random = Random::new(8);
     for length in [65_535, 65_536, 65_537, 300_001] {
-        for n in [1u32, 16, 17] {
+        for n in [1u32, 16, 17, 32, 33] {
             let mut bytes = any_bytes(&mut random, length);
             bytes[..4].copy_from_slice(&n.to_le_bytes());
             for frames in [false, true] {

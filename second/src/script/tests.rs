@@ -19,8 +19,8 @@ fn crane_empty() -> String {
 
 #[test]
 fn as_many_numbers_as_the_page_says() {
-    assert_eq!(reader_numbers(Layout::Panel), 200);
-    assert_eq!(WRITER_NUMBERS, 104);
+    assert_eq!(reader_numbers(Layout::Panel), 392);
+    assert_eq!(WRITER_NUMBERS, 200);
     assert_eq!(reader_numbers(Layout::Crane), 134);
 }
 

@@ -56,11 +56,28 @@ const READER: &[&str] = &[
 ];
 
 /// Of the panel's reader alone.
-const PANEL: &[&str] =
-    &["run: another major is shown", "run: another minor is shown", "one: major is set", "one: minor is set"];
+const PANEL: &[&str] = &[
+    "run: another major is shown",
+    "run: another minor is shown",
+    "one: major is set",
+    "one: minor is set",
+    "fresh: 17 to 31 slots accepted",
+    "fresh: 32 slots accepted",
+    "fresh: 33 slots refused",
+    "run: another slot 31 is shown",
+    "one: slot 31 is current",
+    "one: a slot from 16 on is set",
+    "one: an id in both halves makes it stale",
+    "load: slot 31 is live",
+    "load: refused for an id in both halves",
+    "ask: a contact from slot 16 on",
+    "reader: refused for an id in both halves",
+];
 
 /// Of a crane's reader alone.
 const CRANES: &[&str] = &[
+    "fresh: 16 slots accepted",
+    "fresh: 17 to 32 slots refused",
     "run: major is skipped first",
     "run: minor is skipped first",
     "one: major is skipped first",
@@ -71,6 +88,9 @@ const CRANES: &[&str] = &[
 const OTHERS: &[&str] = &[
     "new 0",
     "new 1",
+    "new: 17 to 31 slots accepted",
+    "new: 32 slots accepted",
+    "new: 33 slots refused",
     "write 0",
     "write 2",
     "write 3",
@@ -78,7 +98,13 @@ const OTHERS: &[&str] = &[
     "write 5",
     "write: accepted, no event",
     "write: accepted, some events",
-    "write: accepted, 112 events",
+    "write: accepted, 224 events",
+    "write: accepted, slot 31 alone",
+    "write: accepted, the upper half alone",
+    "write: accepted, slots of both halves",
+    "write: accepted, slot 31 lifts",
+    "write: accepted, slot 31 lands",
+    "write: refused for an id in both halves",
     "write: accepted, a contact of pressure 1",
     "write: accepted, pressure 0 in kind 0",
     "write: accepted, a contact of pressure 0 lifts",

@@ -4,6 +4,7 @@ mod expected;
 mod reading;
 #[cfg(test)]
 mod tests;
+mod wide;
 mod writing;
 
 use std::collections::BTreeMap;
@@ -89,6 +90,7 @@ impl Tally {
             Call::Pod { .. } => answer.split(" / ").for_each(|step| self.count_step(step)),
             _ => self.note(format!("{name} {verdict}")),
         }
+        self.count_width(&call, &said);
         match &call {
             Call::Load { reader, .. } if verdict == "7" => {
                 self.note(format!("{name}: refused while {}", mode_name(reader.mode)));

@@ -26,7 +26,7 @@ impl Tally {
         }
     }
 
-    fn accepted(&mut self, what: &str) {
+    pub(super) fn accepted(&mut self, what: &str) {
         self.note(format!("write: accepted, {what}"));
     }
 
@@ -43,6 +43,7 @@ impl Tally {
         if after.counter < writer.counter {
             self.note("write: the counter wrapped");
         }
+        self.count_halves(writer, &after);
         self.count_sizes_sent(writer, &after);
     }
 
@@ -96,7 +97,7 @@ impl Tally {
     }
 }
 
-fn lands(old: &Slot, new: &Slot) -> bool {
+pub(super) fn lands(old: &Slot, new: &Slot) -> bool {
     !old.id.is_live() && new.id.is_live()
 }
 

@@ -60,6 +60,15 @@ fn judged_sizes(bytes: &[u8]) -> Vec<u8> {
     })
 }
 
+/// Another n in place of one that is so.
+fn with_n(bytes: &[u8], of: fn(u32) -> u32) -> Vec<u8> {
+    if bytes.len() < HEADER {
+        return bytes.to_vec();
+    }
+    let n = of(u32::from_le_bytes([bytes[0], bytes[1], bytes[2], bytes[3]]));
+    [&n.to_le_bytes(), &bytes[4..]].concat()
+}
+
 /// Each mistake of this file.
 pub fn all() -> Vec<Reads> {
     let mut all = Vec::new();
@@ -68,6 +77,10 @@ pub fn all() -> Vec<Reads> {
         reads("a setup of sixteen bytes is whole", program, program, without_sizes);
     }
     for program in ["show_table", "write_frames"] {
+        reads("a panel has 16 slots at most", program, program, |bytes| {
+            with_n(bytes, |n| if (17..=32).contains(&n) { 0 } else { n })
+        });
+        reads("a panel of 33 slots has 32", program, program, |bytes| with_n(bytes, |n| if n == 33 { 32 } else { n }));
         reads("the largest major is not judged", program, program, |bytes| {
             with_numbers(bytes, |numbers| numbers[4] = numbers[4].clamp(1, 255))
         });
@@ -79,6 +92,9 @@ pub fn all() -> Vec<Reads> {
         });
     }
     reads("a crane judges the largest sizes", "crane_table", "crane_table", judged_sizes);
+    reads("a crane shows the first 16 slots of a wide panel", "crane_table", "crane_table", |bytes| {
+        with_n(bytes, |n| if (17..=32).contains(&n) { 16 } else { n })
+    });
     reads("a crane prints six numbers", "crane_table", "show_table", <[u8]>::to_vec);
     reads("the panel's table has four numbers", "show_table", "crane_table", <[u8]>::to_vec);
     all

@@ -9,7 +9,7 @@ use crate::states::{ids_meet, too_few_bits, NAMES};
 use crate::wrong::{answers, judges_early, reader_text, refuses, says, takes, Wrong};
 
 /// It takes an image or a current slot for another.
-fn image(name: impl Into<String>, change: impl Fn(&Reader, &mut SlotNumber, &mut Vec<i32>) + 'static) -> Wrong {
+pub fn image(name: impl Into<String>, change: impl Fn(&Reader, &mut SlotNumber, &mut Vec<i32>) + 'static) -> Wrong {
     takes(name, move |call| {
         if let Call::Load { reader, current, image } = call {
             change(reader, current, image);
@@ -25,7 +25,7 @@ fn rows(name: impl Into<String>, change: impl Fn(&Setup, &mut [i32]) + 'static) 
 }
 
 /// It accepts a load, and ends in another state.
-fn ends(name: &str, change: impl Fn(&Reader, &mut Reader) + 'static) -> Wrong {
+pub fn ends(name: &str, change: impl Fn(&Reader, &mut Reader) + 'static) -> Wrong {
     answers(name, move |asked| {
         let Call::Load { reader, current, image } = asked.call? else {
             return None;

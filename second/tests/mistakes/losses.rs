@@ -9,7 +9,7 @@ use crate::states::{ids_meet, too_few_bits};
 use crate::wrong::{judges_early, right_step, says, skipped, steps, takes, Wrong};
 
 /// It does the right thing and then something else: the reader before, the event, the reader after, what is told.
-fn after(name: &str, more: impl Fn(&Reader, Event, &mut Reader, &mut Ran) + 'static) -> Wrong {
+pub fn after(name: &str, more: impl Fn(&Reader, Event, &mut Reader, &mut Ran) + 'static) -> Wrong {
     steps(name, move |reader, event| {
         let before = reader.clone();
         let mut ran = right_step(reader, event);
@@ -26,7 +26,8 @@ fn is_dropped(event: Event) -> bool {
     (event.kind, event.code) == (EV_SYN, SYN_DROPPED)
 }
 
-fn is_lost(before: &Reader, now: &Reader) -> bool {
+/// Whether it follows no more.
+pub fn is_lost(before: &Reader, now: &Reader) -> bool {
     before.mode == Mode::Following && now.mode != Mode::Following
 }
 

@@ -15,6 +15,7 @@ mod sent;
 mod skips;
 mod slow_writer;
 mod states;
+mod wide;
 mod wrong;
 
 use second::maker::Maker;
@@ -143,6 +144,13 @@ fn of_pressures() {
 fn of_gloves() {
     all_are_noticed("gloves", On::All, gloves::of_writers());
     all_are_noticed("gloves", On::Readers(Layout::Crane), gloves::of_cranes());
+}
+
+#[test]
+fn of_wide_panels() {
+    all_are_noticed("wide", On::All, wide::of_writers());
+    all_are_noticed("wide", On::Readers(Layout::Panel), wide::of_readers());
+    all_are_noticed("wide", On::Readers(Layout::Crane), wide::of_cranes());
 }
 
 #[test]

@@ -1,7 +1,7 @@
 //! Mistakes in what a frame is sent as: the ids given, the events and their order, the counter and the current slot afterwards.
 
 use second::events::{Event, ABS_MT_POSITION_X, ABS_MT_TRACKING_ID};
-use second::table::{Slot, TrackingId, PRESSURE};
+use second::table::{Slot, TrackingId, PRESSURE, SLOTS};
 use second::writer::MOST_EVENTS;
 
 use crate::slow_writer::{numbers_of, six, writes, RIGHT};
@@ -10,9 +10,9 @@ use crate::wrong::Wrong;
 
 fn ids() -> Vec<Wrong> {
     let mut all = vec![
-        writes("a replaced id is free in its own frame", |parts| parts.is_old_taken = |kind| kind != 2),
-        writes("a lifted id is free in its own frame", |parts| parts.is_old_taken = |kind| kind != 0),
-        writes("an id that goes on is free", |parts| parts.is_old_taken = |kind| kind != 1),
+        writes("a replaced id is free in its own frame", |parts| parts.is_old_taken = |_, kind| kind != 2),
+        writes("a lifted id is free in its own frame", |parts| parts.is_old_taken = |_, kind| kind != 0),
+        writes("an id that goes on is free", |parts| parts.is_old_taken = |_, kind| kind != 1),
         writes("an id given in this frame is free", |parts| {
             parts.is_given_taken = false;
             parts.start = |counter, _| counter;
@@ -31,7 +31,7 @@ fn ids() -> Vec<Wrong> {
     for (how, bits) in too_few_bits() {
         all.push(writes(format!("a new id is compared {how}"), |parts| parts.compared = bits as u32));
     }
-    for passes in 0..16 {
+    for passes in 0..SLOTS as u32 {
         all.push(writes(format!("a search passes {passes} ids at most"), |parts| parts.passes = passes));
     }
     all
@@ -140,6 +140,9 @@ fn events() -> Vec<Wrong> {
         writes("80 events are the most", |parts| {
             parts.end = |events| (RIGHT.end)(events).into_iter().take(80).collect();
         }),
+        writes("112 events are the most", |parts| {
+            parts.end = |events| (RIGHT.end)(events).into_iter().take(112).collect();
+        }),
     ]
 }
 
@@ -152,7 +155,6 @@ fn answers() -> Vec<Wrong> {
         writes("the current slot becomes 0 where nothing is sent", |parts| {
             parts.current = |sent, _| sent.last().copied().unwrap_or(0);
         }),
-        writes("slot 15 has no bit", |parts| parts.changed = |slots| (RIGHT.changed)(slots) & 0x7fff),
         writes("slots from 8 on have no bit", |parts| parts.changed = |slots| (RIGHT.changed)(slots) & 0xff),
         writes("slot 0 has the highest bit", |parts| {
             parts.changed = |slots| (RIGHT.changed)(slots).reverse_bits();

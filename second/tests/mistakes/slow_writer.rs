@@ -18,8 +18,8 @@ pub struct Parts {
     pub behind: fn(u32) -> u32,
     /// Where a search begins, from the counter and the ids given so far.
     pub start: fn(u32, &[u32]) -> u32,
-    /// Whether an old id counts as taken, by the kind of its slot in the frame.
-    pub is_old_taken: fn(i32) -> bool,
+    /// Whether an old id counts as taken, by its slot and the kind that the frame has there.
+    pub is_old_taken: fn(usize, i32) -> bool,
     /// Whether an id that was given in this frame counts as taken.
     pub is_given_taken: bool,
     /// The order in which ids are given, from how many slots and the current one.
@@ -34,6 +34,8 @@ pub struct Parts {
     pub order: fn(&[usize], usize) -> Vec<usize>,
     /// Whether ABS_MT_SLOT opens a slot, from the slot, the current one and the one sent before it.
     pub is_named: fn(usize, usize, Option<usize>) -> bool,
+    /// The value that names a slot.
+    pub name: fn(usize) -> i32,
     /// The numbers sent of a slot, old and new.
     pub numbers: fn(&Slot, &Slot) -> Vec<Event>,
     /// How the events end, from those of the slots.
@@ -41,7 +43,7 @@ pub struct Parts {
     /// The current slot afterwards, from those sent and the old one.
     pub current: fn(&[usize], usize) -> usize,
     /// The number of the changed slots.
-    pub changed: fn(&[usize]) -> u16,
+    pub changed: fn(&[usize]) -> u32,
     /// Whether there is room, from position, size and need.
     pub has_room: fn(u64, usize, usize) -> bool,
     /// The need that is told, from the events, the position and the size.
@@ -56,7 +58,7 @@ pub const RIGHT: Parts = Parts {
     passes: u32::MAX,
     behind: |id| (id + 1) % 65_536,
     start: |counter, given| given.last().map_or(counter, |id| (id + 1) % 65_536),
-    is_old_taken: |_| true,
+    is_old_taken: |_, _| true,
     is_given_taken: true,
     giving: |slots, _| (0..slots).collect(),
     counter: |counter, given| given.last().map_or(counter, |id| (id + 1) % 65_536),
@@ -67,6 +69,7 @@ pub const RIGHT: Parts = Parts {
         changed.iter().filter(is_current).chain(changed.iter().filter(|s| !is_current(s))).copied().collect()
     },
     is_named: |slot, current, _| slot != current,
+    name: |slot| slot as i32,
     numbers: |old, new| {
         let pairs = six(old).into_iter().zip(six(new));
         pairs.filter(|(old, new)| old != new).map(|(_, new)| new).collect()
@@ -148,9 +151,11 @@ impl Parts {
     /// The new table and counter.
     fn table(&self, writer: &Writer, frame: &[i32]) -> Writer {
         let rows: Vec<&[i32]> = frame.chunks_exact(SLOT_NUMBERS).collect();
-        let old =
-            || writer.table.iter().zip(&rows).filter(|(slot, row)| slot.id.is_live() && (self.is_old_taken)(row[0]));
-        let mut taken: Vec<u32> = old().map(|(slot, _)| slot.id.0 as u32).collect();
+        let old = writer.table.iter().zip(&rows).enumerate();
+        let mut taken: Vec<u32> = old
+            .filter(|(s, (slot, row))| slot.id.is_live() && (self.is_old_taken)(*s, row[0]))
+            .map(|(_, (slot, _))| slot.id.0 as u32)
+            .collect();
         let mut given = Vec::new();
         let mut after = writer.clone();
         for s in (self.giving)(rows.len(), writer.current.0 as usize) {
@@ -190,7 +195,7 @@ impl Parts {
         let mut before = None;
         for s in sent {
             if (self.is_named)(*s, writer.current.0 as usize, before) {
-                events.push(Event::abs(ABS_MT_SLOT, *s as i32));
+                events.push(Event::abs(ABS_MT_SLOT, (self.name)(*s)));
             }
             events.extend((self.numbers)(&writer.table[*s], &after.table[*s]));
             before = Some(*s);

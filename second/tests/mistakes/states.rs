@@ -108,13 +108,13 @@ fn setup_number((place, refusal, find): Place, (i, name, limit): (usize, String,
 }
 
 /// A table of a call's state that is judged by itself; while lost a reader has but one.
-type Find = fn(&mut Call, &dyn Fn(&Setup, &mut Table));
-const WRITERS_TABLE: (&str, Find) = ("writer's", |call, change| {
+pub type Find = fn(&mut Call, &dyn Fn(&Setup, &mut Table));
+pub const WRITERS_TABLE: (&str, Find) = ("writer's", |call, change| {
     if let Some(writer) = writer_of(call) {
         change(&writer.setup, &mut writer.table);
     }
 });
-const SHOWN: (&str, Find) = ("shown", |call, change| {
+pub const SHOWN: (&str, Find) = ("shown", |call, change| {
     if let Some(reader) = reader_of(call) {
         let is_one = reader.mode != Mode::Following && reader.shown == reader.pending;
         change(&reader.setup, &mut reader.shown);
@@ -230,7 +230,7 @@ pub fn too_few_bits() -> Vec<(String, i32)> {
 }
 
 /// Gives another id to each slot that has one of those before it, if such repeats are not seen.
-fn mend_repeats(table: &mut Table, is_seen: impl Fn(usize, usize, i32) -> bool) {
+pub fn mend_repeats(table: &mut Table, is_seen: impl Fn(usize, usize, i32) -> bool) {
     for s in 1..SLOTS {
         for t in 0..s {
             if table[s].id.is_live() && table[s].id == table[t].id && !is_seen(t, s, table[s].id.0) {

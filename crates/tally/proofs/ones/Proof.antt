@@ -1,4 +1,4 @@
--- `tally::ones` counts the ones of a number of 16 bits. Assumes nothing.
+-- `tally::ones` counts the ones of a number of 32 bits. Assumes nothing.
 use mathlib.Core.Path.{refl}
 use lib.Count.{ones-le}
 use Rattle.model.specs.Panel.{records}

@@ -46,11 +46,11 @@ fn refused_setups() -> Vec<(Vec<u8>, String)> {
     let mut setups: Vec<(Vec<u8>, String)> =
         (0..24).map(|length| (good[..length].to_vec(), format!("the setup is cut: {length} of 24 bytes\n"))).collect();
     for (numbers, wrong) in [
-        ("0 1 1 1 1 1", "n is 0, and must be 1 to 16\n"),
-        ("17 1 1 1 1 1", "n is 17, and must be 1 to 16\n"),
+        ("0 1 1 1 1 1", "n is 0, and must be 1 to 32\n"),
+        ("33 1 1 1 1 1", "n is 33, and must be 1 to 32\n"),
         ("1 0 1 1 1 1", "the largest x is 0, and must be 1 to 32767\n"),
         ("1 2147483649 1 1 1 1", "the largest x is 2147483649, and must be 1 to 32767\n"),
-        ("16 32767 32768 255 255 255", "the largest y is 32768, and must be 1 to 32767\n"),
+        ("32 32767 32768 255 255 255", "the largest y is 32768, and must be 1 to 32767\n"),
         ("1 1 1 256 1 1", "the largest pressure is 256, and must be 1 to 255\n"),
         ("1 1 1 1 0 1", "the largest major is 0, and must be 1 to 255\n"),
         ("1 1 1 1 255 256", "the largest minor is 256, and must be 1 to 255\n"),
@@ -70,7 +70,7 @@ fn each_refused_setup() {
     }
     assert_eq!(
         table("SETUP 4294967295 0 40000 0 300 0").2,
-        "show_table: n is 4294967295, and must be 1 to 16\n\
+        "show_table: n is 4294967295, and must be 1 to 32\n\
          show_table: the largest x is 0, and must be 1 to 32767\n\
          show_table: the largest y is 40000, and must be 1 to 32767\n\
          show_table: the largest pressure is 0, and must be 1 to 255\n\
@@ -214,6 +214,9 @@ fn frames_shown_by_both() {
         let input = noise("write_frames", 3, index).unwrap();
         let (_, sent, _) = answers("write_frames", &input, usize::MAX, false);
         let (panel, crane) = (said("show_table", &sent, false), said("crane_table", &sent, false));
+        // A wide panel is none of a crane's.
+        let is_wide = header(&sent[..sent.len().min(HEADER)]).is_some_and(|setup| setup.slots > 16);
+        assert_eq!(crane.1 == "refused 1\n", is_wide || panel.1 == "refused 1\n");
         if crane.1 != "refused 1\n" {
             let four = |line: &str| line.split(' ').take(5).collect::<Vec<_>>().join(" ") + "\n";
             assert_eq!(panel.1.lines().map(four).collect::<String>(), crane.1);

@@ -1,4 +1,5 @@
 -- `explain::lines::say_slots` reads no slot past the table. The loop has said those before k. Assumes nothing.
+use Rattle.model.specs.Panel.{records}
 use Prim.Native.Nat.{_≤_, _-_}
 use mathlib.Core.Path.{_≡_}
 use lib.ListN.{length}
@@ -7,10 +8,10 @@ use Rattle.explain.proofs.lines.say_slots.Statement.{statement}
 use Rattle.explain.proofs.lines.say_slots.Tie as tie
 
 abbrev Inv-loop : tie.InvT-loop
-Inv-loop page₀ table said₀ k₀ page said k = (k ≤ 16) × (length page ≡ length page₀)
+Inv-loop page₀ table said₀ k₀ page said k = (k ≤ records) × (length page ≡ length page₀)
 
 abbrev μ-loop : tie.MeasureT-loop
-μ-loop page₀ table said₀ k₀ page said k = 16 - k
+μ-loop page₀ table said₀ k₀ page said k = records - k
 
 loop-holds : tie.Need-loop-holds Inv-loop μ-loop
 loop-holds c = search needs

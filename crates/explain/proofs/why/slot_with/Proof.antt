@@ -1,14 +1,15 @@
 -- `explain::why::slot_with` reads no slot past the table. The loop has compared those before j. Assumes nothing.
+use Rattle.model.specs.Panel.{records}
 use Prim.Native.Nat.{_≤_, _-_}
 use borrow.Author.Needs.{needs}
 use Rattle.explain.proofs.why.slot_with.Statement.{statement}
 use Rattle.explain.proofs.why.slot_with.Tie as tie
 
 abbrev Inv-loop : tie.InvT-loop
-Inv-loop k v table j₀ j = j ≤ 16
+Inv-loop k v table j₀ j = j ≤ records
 
 abbrev μ-loop : tie.MeasureT-loop
-μ-loop k v table j₀ j = 16 - j
+μ-loop k v table j₀ j = records - j
 
 loop-holds : tie.Need-loop-holds Inv-loop μ-loop
 loop-holds c = search needs

@@ -1,14 +1,15 @@
 -- `explain::why::twice_in` reads no slot past the table. The loop has looked at those before k. Assumes nothing.
+use Rattle.model.specs.Panel.{records}
 use Prim.Native.Nat.{_≤_, _-_}
 use borrow.Author.Needs.{needs}
 use Rattle.explain.proofs.why.twice_in.Statement.{statement}
 use Rattle.explain.proofs.why.twice_in.Tie as tie
 
 abbrev Inv-loop : tie.InvT-loop
-Inv-loop table k₀ k = k ≤ 16
+Inv-loop table k₀ k = k ≤ records
 
 abbrev μ-loop : tie.MeasureT-loop
-μ-loop table k₀ k = 16 - k
+μ-loop table k₀ k = records - k
 
 loop-holds : tie.Need-loop-holds Inv-loop μ-loop
 loop-holds c = search needs
