@@ -6,7 +6,7 @@ use crate::events::{events, RECORD};
 use crate::reader::Reader;
 use crate::records;
 use crate::script::{head_numbers, layout_of, reader_numbers, table_numbers};
-use crate::script::{Call, MOST_NUMBERS, WRITER_HEAD, WRITER_NUMBERS};
+use crate::script::{Call, Cut, MOST_NUMBERS, PIECES_NUMBERS, WRITER_HEAD, WRITER_NUMBERS};
 use crate::table::{Layout, Slot, Table};
 
 /// A whole brief script as a script for `drive`; an error names its line.
@@ -103,13 +103,18 @@ pub fn shorten(call: &Call) -> String {
     match call {
         Call::Run { reader, bytes } => {
             let mut line = short_reader(&words, reader);
-            for event in events(bytes) {
-                line.push_str(&format!(" {{{}}}", records::event_text(event)));
-            }
-            for byte in bytes.chunks_exact(RECORD).remainder() {
-                line.push_str(&format!(" {byte}"));
-            }
+            put_bytes(&mut line, bytes);
             line
+        }
+        Call::PiecesTake { pieces, cut } => {
+            let reader = reader_numbers(Layout::Panel);
+            let behind = PIECES_NUMBERS + 2 + cut.lengths.len();
+            let mut line = join(short_reader(&words, &pieces.reader), &words[reader + 1..behind]);
+            put_cut(&mut line, pieces.held, cut);
+            line
+        }
+        Call::PiecesLoad { pieces, .. } | Call::PiecesAsk { pieces, .. } => {
+            join(short_reader(&words, &pieces.reader), &words[reader_numbers(Layout::Panel) + 1..])
         }
         Call::One { reader, .. } | Call::Load { reader, .. } | Call::Ask { reader, .. } | Call::Good { reader } => {
             join(short_reader(&words, reader), &words[reader_numbers(reader.layout) + 1..])
@@ -118,8 +123,28 @@ pub fn shorten(call: &Call) -> String {
             let head = words[..=WRITER_HEAD].join(" ");
             join(format!("{head} {}", short_table(Layout::Panel, &writer.table)), &words[WRITER_NUMBERS + 1..])
         }
-        Call::Fresh(..) | Call::New(_) | Call::Start | Call::Pod { .. } => long,
+        Call::Fresh(..) | Call::New(_) | Call::PiecesFresh(_) | Call::Start | Call::Pod { .. } => long,
     }
+}
+
+/// Whole records as events, and the bytes behind them.
+fn put_bytes(line: &mut String, bytes: &[u8]) {
+    for event in events(bytes) {
+        line.push_str(&format!(" {{{}}}", records::event_text(event)));
+    }
+    put_plain(line, bytes.chunks_exact(RECORD).remainder());
+}
+
+fn put_plain(line: &mut String, bytes: &[u8]) {
+    bytes.iter().for_each(|byte| line.push_str(&format!(" {byte}")));
+}
+
+/// The same behind bytes that are held: those first that end a record.
+fn put_cut(line: &mut String, held: u64, cut: &Cut) {
+    let missing = (RECORD as u64 - held % RECORD as u64) as usize % RECORD;
+    let (first, rest) = cut.bytes.split_at(missing.min(cut.bytes.len()));
+    put_plain(line, first);
+    put_bytes(line, rest);
 }
 
 fn short_reader(words: &[&str], reader: &Reader) -> String {

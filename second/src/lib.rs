@@ -1,6 +1,6 @@
 //! Panel and pod events, written from documents 01 and 02 alone: what the proved library is compared with.
 //!
-//! The rules: [`refusal`], [`table`], [`events`], [`reader`], [`writer`], [`pod`].
+//! The rules: [`refusal`], [`table`], [`events`], [`reader`], [`pieces`], [`writer`], [`pod`].
 //! The programs: [`streams`], [`programs`]. The comparison: [`script`], [`maker`], [`random`], [`noise`], [`smaller`], [`tally`].
 //! Texts for people: [`records`], [`brief`].
 
@@ -8,6 +8,7 @@ pub mod brief;
 pub mod events;
 pub mod maker;
 pub mod noise;
+pub mod pieces;
 pub mod pod;
 pub mod programs;
 pub mod random;

@@ -3,8 +3,9 @@
 use std::io::{self, Read, Write};
 
 use crate::events::{Event, RECORD};
+use crate::pieces::PieceReader;
 use crate::pod::Pod;
-use crate::reader::{Mode, Reader};
+use crate::reader::{Mode, Ran, Reader};
 use crate::refusal::Refusal;
 use crate::script::{is_passed_over, Call, InWords, BAD_LINE, LONGEST_LINE};
 use crate::streams::{Came, Lines, Status, Streams, Words};
@@ -107,11 +108,10 @@ fn read_records<R: Read, W: Write, E: Write>(streams: &mut Streams<R, W, E>, lay
     };
     let mut reader = Reader::fresh(layout, setup).expect("a setup without a wrong number is good");
     let mut read = Followed::default();
-    let ended = streams.units(RECORD, |run, _, _| -> io::Result<()> {
-        read.run(&mut reader, run);
-        Ok(())
-    })?;
-    let cut = streams.input.held().len();
+    let (ended, cut) = match layout {
+        Layout::Panel => take_pieces(streams, &mut reader, &mut read)?,
+        Layout::Crane => run_records(streams, &mut reader, &mut read)?,
+    };
     if ended == Came::Lost {
         streams.words.say("input was lost, which counts as SYN_DROPPED");
         reader.one(Event::DROPPED).expect(WELL_FORMED);
@@ -134,6 +134,37 @@ fn read_records<R: Read, W: Write, E: Write>(streams: &mut Streams<R, W, E>, lay
     Ok(())
 }
 
+/// The input as it comes, in pieces of any size: how it ended, and how many bytes are left over then.
+fn take_pieces<R: Read, W: Write, E: Write>(
+    streams: &mut Streams<R, W, E>,
+    reader: &mut Reader,
+    read: &mut Followed,
+) -> io::Result<(Came, u64)> {
+    let mut pieces = PieceReader::of(reader.clone());
+    let ended = streams.units(1, |piece, _, _| -> io::Result<()> {
+        let before = pieces.held;
+        let ran = pieces.take(piece).expect(WELL_FORMED);
+        read.note(Layout::Panel, (before + piece.len() as u64 - pieces.held) / RECORD as u64, &ran);
+        Ok(())
+    })?;
+    *reader = pieces.reader;
+    Ok((ended, pieces.held))
+}
+
+/// The input in runs of whole records, as the old call takes them.
+fn run_records<R: Read, W: Write, E: Write>(
+    streams: &mut Streams<R, W, E>,
+    reader: &mut Reader,
+    read: &mut Followed,
+) -> io::Result<(Came, u64)> {
+    let ended = streams.units(RECORD, |run, _, _| -> io::Result<()> {
+        let ran = reader.run(run).expect(WELL_FORMED);
+        read.note(reader.layout, (run.len() / RECORD) as u64, &ran);
+        Ok(())
+    })?;
+    Ok((ended, streams.input.held().len() as u64))
+}
+
 const WELL_FORMED: &str = "a state that began fresh is well formed";
 
 /// The one line of a refusal, written before anything is said of it.
@@ -151,11 +182,10 @@ struct Followed {
 }
 
 impl Followed {
-    fn run(&mut self, reader: &mut Reader, records: &[u8]) {
-        let ran = reader.run(records).expect(WELL_FORMED);
-        self.followed += (records.len() / RECORD) as u64 - ran.ignored;
+    fn note(&mut self, layout: Layout, records: u64, ran: &Ran) {
+        self.followed += records - ran.ignored;
         // A crane skips every size of a gloved hand, and that is nothing strange.
-        self.strange += match reader.layout {
+        self.strange += match layout {
             Layout::Panel => ran.skipped(),
             Layout::Crane => ran.unknown_type,
         };

@@ -36,6 +36,16 @@ impl Ran {
         self.unknown_type + self.unknown_code
     }
 
+    /// What two runs tell together, this one before the other.
+    pub fn add(&mut self, later: Ran) {
+        self.shown += later.shown;
+        self.unknown_type += later.unknown_type;
+        self.unknown_code += later.unknown_code;
+        self.bad += later.bad;
+        self.ignored += later.ignored;
+        self.first_skipped = self.first_skipped.or(later.first_skipped);
+    }
+
     fn skip(&mut self, event: Event) {
         if KNOWN_TYPES.contains(&event.kind) {
             self.unknown_code += 1;

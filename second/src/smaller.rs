@@ -1,9 +1,10 @@
 //! Smaller calls than one that was answered differently: what is tried to find the shortest script that shows a difference.
 
 use crate::events::{events, Event, ABS_MT_SLOT, EV_ABS, RECORD};
+use crate::pieces::PieceReader;
 use crate::pod::Pod;
 use crate::reader::{Mode, Reader};
-use crate::script::Call;
+use crate::script::{Call, Cut};
 use crate::table::{Setup, Slot, SlotNumber, Table, SLOTS, SLOT_NUMBERS};
 use crate::writer::Writer;
 
@@ -38,14 +39,24 @@ fn weight_of(call: &Call) -> (usize, usize, u64, usize) {
     let words = || line.split(' ').skip(1);
     let (size, slots) = match call {
         Call::Write { size, writer, .. } => (*size, writer.setup.slots),
-        _ => (0, call.reader().map_or(0, |reader| reader.setup.slots)),
+        _ => {
+            let reader = call.pieces().map(|pieces| &pieces.reader).or(call.reader());
+            (0, reader.map_or(0, |reader| reader.setup.slots))
+        }
     };
     (words().count() + size, words().filter(|word| !matches!(*word, "0" | "-1")).count(), slots, line.len())
 }
 
 fn candidates(call: &Call, give: &mut dyn FnMut(Call)) {
     match call {
-        Call::Fresh(..) | Call::New(_) | Call::Start => {}
+        Call::Fresh(..) | Call::New(_) | Call::PiecesFresh(_) | Call::Start => {}
+        Call::PiecesTake { pieces, cut } => smaller_cuts(pieces, cut, give),
+        Call::PiecesLoad { pieces, current, image } => smaller_left_over(pieces, &mut |pieces| {
+            give(Call::PiecesLoad { pieces, current: *current, image: image.clone() });
+        }),
+        Call::PiecesAsk { pieces, slot } => {
+            smaller_left_over(pieces, &mut |pieces| give(Call::PiecesAsk { pieces, slot: *slot }));
+        }
         Call::Pod { pod, bytes } => smaller_pods(*pod, bytes, give),
         Call::Write { .. } => {
             smaller_room(call, give);
@@ -86,6 +97,49 @@ fn smaller_pods(pod: Pod, bytes: &[u8], give: &mut dyn FnMut(Call)) {
         bytes.drain(part);
         give(Call::Pod { pod, bytes });
     }
+}
+
+/// Less in the reader, or nothing left over.
+fn smaller_left_over(pieces: &PieceReader, give: &mut dyn FnMut(PieceReader)) {
+    smaller_readers(&pieces.reader, &mut |reader| give(PieceReader { reader, ..pieces.clone() }));
+    give(PieceReader::of(pieces.reader.clone()));
+}
+
+/// Fewer pieces of the same bytes, those behind the first alone, or fewer bytes.
+fn smaller_cuts(pieces: &PieceReader, cut: &Cut, give: &mut dyn FnMut(Call)) {
+    let mut with = |pieces: PieceReader, cut: Cut| {
+        if cut.is_whole() {
+            give(Call::PiecesTake { pieces, cut });
+        }
+    };
+    smaller_left_over(pieces, &mut |pieces| with(pieces, cut.clone()));
+    for i in 1..cut.lengths.len() {
+        let mut joined = cut.clone();
+        joined.lengths[i - 1] += joined.lengths.remove(i);
+        with(pieces.clone(), joined);
+    }
+    let first = cut.lengths[0] as usize;
+    let mut after = pieces.clone();
+    if after.take(&cut.bytes[..first]).is_ok() {
+        with(after, Cut { lengths: cut.lengths[1..].to_vec(), bytes: cut.bytes[first..].to_vec() });
+    }
+    for part in [RECORD, 1].into_iter().flat_map(|size| parts(cut.bytes.len(), size)) {
+        with(pieces.clone(), cut_without(cut, part));
+    }
+}
+
+/// The same pieces without these bytes.
+fn cut_without(cut: &Cut, part: std::ops::Range<usize>) -> Cut {
+    let mut bytes = cut.bytes.clone();
+    bytes.drain(part.clone());
+    let mut start = 0;
+    let shorter = |length: &u64| {
+        let end = start + *length as usize;
+        let lost = end.min(part.end).saturating_sub(start.max(part.start));
+        start = end;
+        *length - lost as u64
+    };
+    Cut { lengths: cut.lengths.iter().map(shorter).collect(), bytes }
 }
 
 fn smaller_runs(reader: &Reader, bytes: &[u8], give: &mut dyn FnMut(Call)) {
@@ -317,6 +371,44 @@ mod tests {
         }
         let short = shorten(&call);
         assert!(short.len() < 150 && short.matches('{').count() <= 3, "{short}");
+    }
+
+    #[test]
+    fn pieces_without_some_of_their_bytes() {
+        let cut = Cut { lengths: vec![3, 0, 5, 2], bytes: (0..10).collect() };
+        for (part, lengths) in [(2..6, [2, 0, 2, 2]), (0..8, [0, 0, 0, 2]), (9..10, [3, 0, 5, 1]), (0..10, [0; 4])] {
+            let fewer = cut_without(&cut, part.clone());
+            assert_eq!(fewer.lengths, lengths);
+            assert!(fewer.is_whole() && fewer.bytes.iter().all(|byte| !part.contains(&(*byte as usize))));
+        }
+    }
+
+    /// A reader that loses a byte behind a record over two pieces: shrunk, one such record and a byte are left.
+    #[test]
+    fn a_long_cut_becomes_a_short_one() {
+        let differs = |call: &Call| match call {
+            Call::PiecesTake { pieces, cut } if pieces.is_well_formed() => {
+                let mut held = pieces.held;
+                cut.lengths.iter().any(|length| {
+                    let is_lost = held > 0 && held + length > RECORD as u64;
+                    held = (held + length) % RECORD as u64;
+                    is_lost
+                })
+            }
+            _ => false,
+        };
+        let mut maker = Maker::new(12);
+        let mut call = loop {
+            match Call::parse(maker.next_line().as_bytes()) {
+                Some(call @ Call::PiecesTake { .. }) if differs(&call) && call.line().len() > 1_500 => break call,
+                _ => {}
+            }
+        };
+        while let Some(next) = smaller(&call).into_iter().find(|call| differs(call)) {
+            call = next;
+        }
+        let short = shorten(&call);
+        assert!(short.len() < 130, "{short}");
     }
 
     #[test]

@@ -6,6 +6,7 @@ use crate::calls::POD;
 use crate::calls::READER;
 use crate::calls::WRITER;
 use crate::crane;
+use crate::cut;
 use crate::say;
 use crate::states;
 use common::SlotNumber;
@@ -189,6 +190,10 @@ pub fn answer(page: &mut [u8], out: Out, call: Call, ns: &[u64]) -> Out {
         Call::CraneLoad => crane::load(page, out, ns),
         Call::CraneAsk => crane::ask(page, out, ns),
         Call::CraneGood => crane::good(page, out, ns),
+        Call::PiecesFresh => cut::fresh(page, out, ns),
+        Call::PiecesTake => cut::take(page, out, ns),
+        Call::PiecesLoad => cut::load(page, out, ns),
+        Call::PiecesAsk => cut::ask(page, out, ns),
         Call::None => out,
     }
 }

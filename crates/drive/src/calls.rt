@@ -19,6 +19,10 @@ pub enum Call {
     CraneLoad,
     CraneAsk,
     CraneGood,
+    PiecesFresh,
+    PiecesTake,
+    PiecesLoad,
+    PiecesAsk,
     None,
 }
 
@@ -45,6 +49,9 @@ pub const READER: usize = SETUP + 2 + 2 * TABLE;
 pub const WRITER: usize = SETUP + 2 + TABLE;
 
 pub const POD: usize = 7;
+
+// A reader, how many bytes are left over, and their places.
+pub const PIECES: usize = READER + 1 + pieces::PLACES;
 
 // A setup and a reader of the cranes.
 pub const CRANE_SETUP: usize = 4;
@@ -107,6 +114,23 @@ fn crane_call_of(line: &[u8], start: usize) -> Call {
     named(line, start, b"crane_good", Call::CraneGood)
 }
 
+// A pod's call, or one of a reader of pieces.
+fn pod_or_pieces(line: &[u8], start: usize) -> Call {
+    if is(line, start, b"pod") {
+        return Call::Pod;
+    }
+    if is(line, start, b"pieces_fresh") {
+        return Call::PiecesFresh;
+    }
+    if is(line, start, b"pieces_take") {
+        return Call::PiecesTake;
+    }
+    if is(line, start, b"pieces_load") {
+        return Call::PiecesLoad;
+    }
+    named(line, start, b"pieces_ask", Call::PiecesAsk)
+}
+
 // The call that a line's word at `start` names. The other names differ in their first letters.
 pub fn call_of(line: &[u8], start: usize) -> Call {
     if start >= line.len() {
@@ -123,7 +147,7 @@ pub fn call_of(line: &[u8], start: usize) -> Call {
         b'g' => named(line, start, b"good", Call::Good),
         b'w' => named(line, start, b"write", Call::Write),
         b's' => named(line, start, b"start", Call::Start),
-        b'p' => named(line, start, b"pod", Call::Pod),
+        b'p' => pod_or_pieces(line, start),
         b'c' => crane_call_of(line, start),
         _ => Call::None,
     }
@@ -223,6 +247,29 @@ fn crane_setup_kind(i: usize) -> Kind {
     Kind::None
 }
 
+// Number i of those after a state of pieces. Lengths and bytes stand in one run, so the bytes are held to eight bits when the lengths are known.
+fn after_pieces(call: Call, i: usize) -> Kind {
+    match call {
+        Call::PiecesTake => Kind::Bits64,
+        Call::PiecesLoad => load_kind(i),
+        Call::PiecesAsk => ask_kind(i),
+        _ => Kind::None,
+    }
+}
+
+fn pieces_kind(call: Call, i: usize) -> Kind {
+    if i < READER {
+        return state_kind(i, Kind::Mode);
+    }
+    if i == READER {
+        return Kind::Bits64;
+    }
+    if i < PIECES {
+        return Kind::Bits8;
+    }
+    after_pieces(call, i - PIECES)
+}
+
 fn write_kind(i: usize) -> Kind {
     if i < WRITER {
         return state_kind(i, Kind::Bits32);
@@ -263,6 +310,10 @@ pub fn kind_at(call: Call, i: usize) -> Kind {
         Call::CraneLoad => crane_kind(call, i),
         Call::CraneAsk => crane_kind(call, i),
         Call::CraneGood => crane_kind(call, i),
+        Call::PiecesFresh => setup_kind(i),
+        Call::PiecesTake => pieces_kind(call, i),
+        Call::PiecesLoad => pieces_kind(call, i),
+        Call::PiecesAsk => pieces_kind(call, i),
         Call::None => Kind::None,
         _ => reader_kind(call, i),
     }
@@ -287,6 +338,10 @@ pub fn fewest(call: Call) -> usize {
         Call::CraneLoad => CRANE_READER + 1,
         Call::CraneAsk => CRANE_READER + 1,
         Call::CraneGood => CRANE_READER,
+        Call::PiecesFresh => SETUP,
+        Call::PiecesTake => PIECES + 2,
+        Call::PiecesLoad => PIECES + 1,
+        Call::PiecesAsk => PIECES + 1,
         Call::None => 1,
     }
 }

@@ -2,6 +2,7 @@
 mod answers;
 mod calls;
 mod crane;
+mod cut;
 mod numbers;
 mod say;
 mod states;
@@ -40,6 +41,9 @@ fn answer_line(page: &mut [u8], out: Out, line: &[u8], ns: &mut [u64]) -> Out {
     let found = numbers::numbers_of(call, line, from, ns);
     let count = found.count;
     if !found.good {
+        return bad_line(page, out);
+    }
+    if !cut::together(call, &ns[..count]) {
         return bad_line(page, out);
     }
     let o = answers::answer(page, out, call, &ns[..count]);

@@ -4,26 +4,61 @@ mod lines;
 mod sums;
 mod why;
 
+ghost use Prim.Native.Nat.{_≤_};
 use common::Verdict;
 use header::Header;
-use reader::ReaderState;
+use pieces::LineState;
+use pieces::PLACES;
 use records::LENGTH;
 use stream::Out;
 use sums::Sums;
 
 // How the reading stands: the reader, what was counted so far, the output.
 struct Standing {
-    state: ReaderState,
+    state: LineState,
     sums: Sums,
     out: Out,
 }
 
-// What the reader answers decides what is said. It refuses no state that came from fresh, so there is no verdict to look at.
-fn explain_one(page: &mut [u8], s: Standing, e: records::Event) -> Standing {
-    let before = s.state;
-    let a = reader::read_one(before, e);
-    let after = a.state;
+// Byte i of the record that the piece ends: the bytes held come first.
+fn byte_of(left: [u8; PLACES], held: usize, piece: &[u8], i: usize) -> u8 {
+    if i < held {
+        if i < PLACES {
+            return left[i];
+        }
+        return 0;
+    }
+    let j = i - held;
+    if j < piece.len() {
+        return piece[j];
+    }
+    0
+}
+
+fn event_of(left: [u8; PLACES], held: usize, piece: &[u8]) -> records::Event {
+    let record = [
+        byte_of(left, held, piece, 0),
+        byte_of(left, held, piece, 1),
+        byte_of(left, held, piece, 2),
+        byte_of(left, held, piece, 3),
+        byte_of(left, held, piece, 4),
+        byte_of(left, held, piece, 5),
+        byte_of(left, held, piece, 6),
+        byte_of(left, held, piece, 7),
+    ];
+    records::record_at(&record, 0)
+}
+
+// A piece that ends one record. What the reader answers decides what is said. It refuses no state that came from fresh, so there is no verdict to look at.
+fn explain_one(page: &mut [u8], s: Standing, piece: &[u8]) -> Standing {
+    let line = s.state;
+    let left = line.left;
+    let e = event_of(left, line.count, piece);
+    let a = pieces::take(line, piece);
+    let next = a.state;
     let counts = a.counts;
+    let before = line.reader;
+    let after = next.reader;
     let so_far = s.sums;
     let out = s.out;
     let read = deeds::read_as(e, before, after, counts);
@@ -31,20 +66,48 @@ fn explain_one(page: &mut [u8], s: Standing, e: records::Event) -> Standing {
     let b = stream::say_number(page, out, sums.records);
     let c = stream::say(page, b, b" ");
     Standing {
-        state: after,
+        state: next,
         sums,
         out: lines::say_line(page, c, read),
     }
+}
+
+// A piece that ends no record: its bytes are held.
+fn hold(s: Standing, piece: &[u8]) -> Standing {
+    let line = s.state;
+    let sums = s.sums;
+    let out = s.out;
+    let a = pieces::take(line, piece);
+    let state = a.state;
+    Standing { state, sums, out }
+}
+
+// How many bytes the record lacks whose first ones are held.
+fn lacking(line: LineState) -> usize
+    ensures { λ r. ⌜ (1 ≤ r) × (r ≤ 8) ⌝ }
+{
+    let held = line.count;
+    if held < LENGTH {
+        return LENGTH - held;
+    }
+    1
 }
 
 // What came is answered before more is waited for.
 fn explain_all(page: &mut [u8], begun: Standing, bytes: &[u8]) -> Standing {
     let mut s = begun;
     let mut at: usize = 0;
-    while LENGTH <= bytes.len() - at {
-        let e = records::record_at(bytes, at);
-        s = explain_one(page, s, e);
-        at += LENGTH;
+    while at < bytes.len() {
+        let line = s.state;
+        let lacks = lacking(line);
+        if bytes.len() - at < lacks {
+            s = hold(s, &bytes[at..]);
+            at = bytes.len();
+        } else {
+            let end = at + lacks;
+            s = explain_one(page, s, &bytes[at..end]);
+            at = end;
+        }
     }
     let state = s.state;
     let sums = s.sums;
@@ -58,7 +121,8 @@ fn explain_all(page: &mut [u8], begun: Standing, bytes: &[u8]) -> Standing {
 
 // Nobody knows what was lost with a failed read: it counts as SYN_DROPPED. That is no record that came, so it has no place and is in no count.
 fn lose(page: &mut [u8], s: Standing) -> Out {
-    let before = s.state;
+    let line = s.state;
+    let before = line.reader;
     let sums = s.sums;
     let out = s.out;
     let loss = records::Event {
@@ -86,8 +150,8 @@ fn refuse_rest(page: &mut [u8], out: Out, rest: usize) -> Out {
     stream::warn(c, b" of 8 bytes\n")
 }
 
-// The output after the last read, which failed or ended after so many bytes of a record.
-fn end(page: &mut [u8], s: Standing, rest: usize, failed: bool) -> Out {
+// The output after the last read, which failed or ended, perhaps inside a record.
+fn end(page: &mut [u8], s: Standing, failed: bool) -> Out {
     let state = s.state;
     let sums = s.sums;
     let out = s.out;
@@ -99,10 +163,11 @@ fn end(page: &mut [u8], s: Standing, rest: usize, failed: bool) -> Out {
         };
         return lose(page, told);
     }
-    if rest != 0 {
-        return refuse_rest(page, out, rest);
+    if state.count != 0 {
+        return refuse_rest(page, out, state.count);
     }
-    sums::say_end(page, out, state, sums)
+    let reader = state.reader;
+    sums::say_end(page, out, reader, sums)
 }
 
 // How the reading stands after a read, and whether to read on.
@@ -120,8 +185,8 @@ fn onward(s: Standing) -> Turn {
     }
 }
 
-fn ended(page: &mut [u8], s: Standing, rest: usize, failed: bool) -> Turn {
-    let out = end(page, s, rest, failed);
+fn ended(page: &mut [u8], s: Standing, failed: bool) -> Turn {
+    let out = end(page, s, failed);
     let state = s.state;
     let sums = s.sums;
     Turn {
@@ -130,35 +195,15 @@ fn ended(page: &mut [u8], s: Standing, rest: usize, failed: bool) -> Turn {
     }
 }
 
-// A record that a read cut: its other bytes are waited for.
-fn finish(page: &mut [u8], s: Standing, record: &mut [u8], rest: usize) -> Turn {
-    let held = stream::within(rest, record);
-    let f = stream::fill(&mut record[held..]);
-    if f.n < record.len() - held {
-        return ended(page, s, held + f.n, f.failed);
-    }
-    onward(explain_all(page, s, record))
-}
-
-// One read: its whole records are answered before more is waited for.
+// One read, of as many bytes as the line has ready.
 fn read_some(page: &mut [u8], s: Standing) -> Turn {
     let mut buf = io::large_buffer();
     let f = stream::some(&mut buf);
     let n = f.n;
     if n == 0 {
-        return ended(page, s, 0, f.failed);
+        return ended(page, s, f.failed);
     }
-    let rest = n % LENGTH;
-    let whole = n - rest;
-    let turn = onward(explain_all(page, s, &buf[..whole]));
-    if rest == 0 {
-        return turn;
-    }
-    if !turn.again {
-        return turn;
-    }
-    let now = turn.standing;
-    finish(page, now, &mut buf[whole..whole + LENGTH], rest)
+    onward(explain_all(page, s, &buf[..n]))
 }
 
 // A proved loop has to end, and nothing says that the input does: the turns are counted down from a number that no run uses up.
@@ -186,7 +231,7 @@ fn after_setup(page: &mut [u8], out: Out, h: Header) -> Out {
     if h.count < header::BYTES {
         return refuse_setup(page, out, h);
     }
-    let a = ReaderState::fresh(h.n as usize, h.x, h.y, h.pressure, h.major, h.minor);
+    let a = LineState::fresh(h.n as usize, h.x, h.y, h.pressure, h.major, h.minor);
     let v = a.verdict;
     if v.number() != 0 {
         return refuse_setup(page, out, h);

@@ -33,7 +33,7 @@ use Rattle.reader.proofs.Back.{answers}
 use Rattle.link.specs.Promises.{WriterMade, Wrote, ReaderMade, Ran, ReadOne, Loaded, Asked}
 
 -- What is exact of the model's verdict is exact of the one that is held of it.
-held-exact : (rows : List Row) (w : C.Verdict) (v : Verdict) → v ≡ verdictFrom w → Exact (C.verdictNumber w) rows → Exact (verdictNumber v) rows
+pub held-exact : (rows : List Row) (w : C.Verdict) (v : Verdict) → v ≡ verdictFrom w → Exact (C.verdictNumber w) rows → Exact (verdictNumber v) rows
 held-exact rows w v e x = subst (λ n. Exact n rows) (sym (ap verdictNumber e ∙ number-seen w)) x
 
 -- `WriterState::fresh`: 1.

@@ -11,6 +11,8 @@
 -- Cases: what the theorems ask can be met.
 -- Shift: any list of calls of `write`, refused ones among them, as the model's.
 -- Cranes: the cranes' reader, given all their bytes, shows four numbers of the writer's slots and skips the sizes alone (K1).
+-- Pieces: bytes as the line delivers them are read as `run` reads the whole records of their string, a load between them too (K5).
+-- PiecesCalls: its claims are the contracts, their refusals exact; pieces from a fresh state, and what is asked between them.
 pub mod Contracts
 pub mod Exact
 pub mod Demands
@@ -23,3 +25,5 @@ pub mod Loss
 pub mod Cases
 pub mod Shift
 pub mod Cranes
+pub mod Pieces
+pub mod PiecesCalls

@@ -10,7 +10,8 @@
 --   Bools: tests that pass or fail, and equal whole numbers.
 --   Tables: slots and tables of one size, equal, good, with one slot changed or done.
 --   Rows: a flat run of numbers row by row.
---   Counts: counts add up.
+--   Places: places for bytes, of which the unused ones are 0.
+--   Counts: counts add up, and are no more than the events.
 --   Layouts: a good setup's panel has fields that events can tell apart and carry.
 --   Order: the slots that a changed-slot number names, taken by its lowest bit, are sent as the model sends them; slot c's bit taken out leaves the others.
 -- Demand 1, refusals
@@ -51,6 +52,9 @@
 --   NarrowReader: a reader with the first numbers of a longer one's slots ends as that one does, its tables cut (K1).
 --   NarrowCounts: of what the longer one lists it skips the later fields.
 --   Narrow: both of a shift, from fresh states.
+--   PiecesCases: P1's bytes in five ways of cutting, a load inside a record, and states that are refused, computed (K5).
+--   Pieces: pieces of any size read as the string that they make, and a load between them comes between two of its records.
+--   PiecesCalls: the calls of such a reader: exact refusals, fresh states, what is asked.
 pub mod Bench
 pub mod AtReport
 pub mod Cranes
@@ -89,7 +93,11 @@ pub mod NarrowReader
 pub mod NarrowCounts
 pub mod Narrow
 pub mod FirstBytes
+pub mod Places
 pub mod Pod
+pub mod PiecesCases
+pub mod Pieces
+pub mod PiecesCalls
 pub mod SelfTest
 pub mod Limits
 pub mod Instances

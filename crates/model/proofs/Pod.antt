@@ -3,14 +3,15 @@
 use mathlib.Core.Path.{_≡_, refl, sym, ap, ap₂, _∙_}
 use mathlib.Core.Bool.{Bool, true, false, cond, _&&_, false≢true}
 use mathlib.Core.List.{List, [], _∷_, _++_, append-assoc}
-use Prim.Native.Nat.{ℕ, zero, suc, _+_, _-_, _≤_, _<_}
+use Prim.Native.Nat.{ℕ, suc, _+_, _-_, _≤_, _<_}
 use native.Mathlib.Omega.{arith}
 use lib.Dec.{leb, ltb, eqb, lit≤}
-use lib.ListN.{length, getD, take, drop, set, replicate, length-append, length-drop, length-replicate, take-append-drop}
+use lib.ListN.{length, getD, take, drop, set, replicate, length-append, length-replicate, take-append-drop}
 use lib.Seq.{length-take-le, take-append-seam, drop-append-seam, drop-cons, set-split}
 use borrow.Author.Tests.{ltb-true, leb-true, eqb-true, lt-ltb, le-ltb, le-leb, eq-eqb}
 use Rattle.model.proofs.Bools.{and-left, and-right}
 use Rattle.model.proofs.Exact.{exact}
+use Rattle.model.proofs.Places.{zeros-replicate, clear-places}
 use Rattle.model.specs.Refusals.{Exact, podRows}
 use Rattle.model.specs.Pod.{Kind, keyDownReport, keyUpReport, absoluteReport, relativeReport, bothSticksReport, oneStickReport, selfTestReport}
 use Rattle.model.specs.Pod.{badByteReport, kindOf, selfTest, amended, lengthOf, places, State, heldIn, unusedIn, holding, emptied, fresh}
@@ -19,21 +20,6 @@ use Rattle.model.specs.Pod.{goodFlags, goodStick, byteAt, judged, Fed, f
 use Rattle.model.specs.Pod.{Stepped, accepted, refusing, stepBy, step, told, after, run}
 
 -- ---- places and the bytes held
-
--- A list of zeros has nothing but zeros.
-zeros-replicate : (n : ℕ) → zeros (replicate n 0) ≡ true
-zeros-replicate zero = refl
-zeros-replicate (suc n) = zeros-replicate n
-
--- A list with nothing but zeros is known by its length.
-replicate-zeros : (l : List ℕ) → zeros l ≡ true → l ≡ replicate (length l) 0
-replicate-zeros [] e = refl
-replicate-zeros (b ∷ bs) e =
-    ap₂ (λ x l. x ∷ l) (eqb-true b 0 (and-left (eqb b 0) (zeros bs) e)) (replicate-zeros bs (and-right (eqb b 0) (zeros bs) e))
-
--- So are the places from one on, where they are clear.
-clear-places : (l : List ℕ) (n : ℕ) → zeros (drop n l) ≡ true → replicate (length l - n) 0 ≡ drop n l
-clear-places l n e = ap (λ m. replicate m 0) (sym (length-drop n l)) ∙ sym (replicate-zeros (drop n l) e)
 
 -- The facts that make a state well formed.
 pub record Formed (s : State) : Type 0 where

@@ -15,6 +15,7 @@ pub mod Calls
 pub mod Pod
 pub mod Refusals
 pub mod Presses
+pub mod Pieces
 pub mod Bench
 pub mod Shift
 pub mod Narrow

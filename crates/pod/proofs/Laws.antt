@@ -1,20 +1,19 @@
--- Laws on bytes and places: a byte in two's complement, the bytes of a whole report, the first byte of those held, unused places; and on answers.
+-- Laws on bytes and places: a byte in two's complement, the bytes of a whole report, the first byte of those held; and on answers.
 -- Cited by the proofs of the pod's functions; assumes nothing.
 use mathlib.Core.Path.{_≡_, refl, ap, ap₂, _∙_}
 use mathlib.Core.Bool.{Bool, true, false, _&&_, and-false}
 use mathlib.Core.List.{List, [], _∷_, _++_}
 use Prim.Native.Nat.{ℕ, zero, suc, _+_, _≤_, _<_, _^_}
-use native.Mathlib.Numerals.{add-one}
 use native.Mathlib.Omega.{arith}
-use lib.Dec.{ltb, eqb}
-use lib.ListN.{length, getD, take, drop, List·getD-append}
-use lib.Seq.{length-take-le, getD-take, getD-at, drop-cons}
+use lib.Dec.{ltb}
+use lib.ListN.{length, getD, take, List·getD-append}
+use lib.Seq.{length-take-le, getD-take, getD-at}
 use borrow.Author.Tests.{ltb-true, lt-ltb}
 use mir.Syntax.{w8}
 use mir.Val.{toZ}
 use Rattle.model.proofs.Bools.{by-sign}
 use Rattle.model.specs.Pod as M
-use Rattle.model.specs.Pod.{kindOf, lengthOf, places, unfinished, zeros, firstOf, Report, relative, byteAt, signed, word}
+use Rattle.model.specs.Pod.{kindOf, lengthOf, places, unfinished, firstOf, Report, relative, byteAt, signed, word}
 use Rattle.model.specs.Pod.{judged, judgedAbsolute, judgedBoth, judgedStick, absoluteReport, relativeReport, bothSticksReport, oneStickReport}
 use Rattle.pod.specs.declared.PodState.{PodState}
 use Rattle.pod.specs.declared.PodAnswer.{PodAnswer}
@@ -79,12 +78,6 @@ unfinished-held (suc n) (x ∷ l) e h r = rw (length-take-le n l (omega arith)) 
         → (ltb 1 (lengthOf (kindOf x)) && ltb (suc n) (lengthOf (kindOf x))) ≡ ltb (suc n) (lengthOf (kindOf x))
     by-test true t = let m = ltb-true (suc n) (lengthOf (kindOf x)) t in rw (t, lt-ltb 1 (lengthOf (kindOf x)) (omega arith))
     by-test false t = rw t (and-false (ltb 1 (lengthOf (kindOf x))))
-
--- ---- unused places
-
--- Places are clear from one on, if that one is 0 and they are clear from the next on.
-pub clear-from : (l : List ℕ) (i : ℕ) → i < length l → zeros (drop i l) ≡ (eqb (getD l i 0) 0 && zeros (drop (i + 1) l))
-clear-from l i h = rw (add-one, drop-cons l i 0 h)
 
 -- ---- the answer
 

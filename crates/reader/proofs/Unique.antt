@@ -2,6 +2,7 @@
 use mathlib.Core.Path.{sym, _∙_}
 use Rattle.model.specs.Unique.{OneAnswer}
 use Rattle.reader.proofs.state_ok.Reads as state-ok
+use Rattle.reader.proofs.run_accepted.Reads as run-accepted
 use Rattle.reader.proofs.run.Reads as run
 use Rattle.reader.proofs.read_one.Reads as read-one
 use Rattle.reader.proofs.load.Reads as load
@@ -9,6 +10,9 @@ use Rattle.reader.proofs.ask.Reads as ask
 
 pub state-ok-one : OneAnswer state-ok.Learnt
 state-ok-one κs a r q s t e g = e ∙ sym g
+
+pub run-accepted-one : OneAnswer run-accepted.Learnt
+run-accepted-one κs a r q s t e g = e ∙ sym g
 
 pub run-one : OneAnswer run.Learnt
 run-one κs a r q s t e g = e ∙ sym g

@@ -206,7 +206,8 @@ fn ran(setup: Setup, e: Ended) -> RunAnswer
     }
 }
 
-fn run_accepted(state: ReaderState, bytes: &[u8]) -> RunAnswer
+// The whole records of a slice, any length of it, read by a state that was judged already: for a crate that judges it itself. A host calls `run`.
+pub fn run_accepted(state: ReaderState, bytes: &[u8]) -> RunAnswer
     requires { ⌜ readerGood base (seen state) ≡ true ⌝ }
     ensures { λ r. ⌜ r ≡ answered (state .setup) (runOver (panelSeen (state .setup)) (seen state .reader) (eventsOf (now (bytes .entry)))) ⌝ }
 {

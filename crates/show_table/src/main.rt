@@ -1,10 +1,9 @@
 // Document 01's small program: reads a setup and event records from standard input and shows what a fresh reader makes of them.
-ghost use mathlib.Core.Bool.{true};
-ghost use mathlib.Core.Path.{_≡_};
 use common::Counts;
 use common::Mode;
 use common::Verdict;
 use header::Header;
+use pieces::LineState;
 use reader::ReaderState;
 use stream::Out;
 
@@ -38,12 +37,11 @@ fn say_state(page: &mut [u8], out: Out, s: ReaderState) -> Out {
     words::say_lines(page, c, shown, setup.n)
 }
 
-// How the reading stands: the reader; how many records it read while following, and how many of them it skipped; the bytes of a record that is cut; whether there is more, or a read failed.
+// How the reading stands: the reader, with the bytes of a record that is cut; how many records it read while following, and how many of them it skipped; whether there is more, or a read failed.
 struct Reading {
-    state: ReaderState,
+    state: LineState,
     followed: u64,
     skipped: u64,
-    rest: usize,
     again: bool,
     failed: bool,
 }
@@ -53,70 +51,51 @@ fn skipped_of(c: Counts) -> u64 {
     std::num::wrapping_add_u64(c.types as u64, c.codes as u64)
 }
 
-fn read_records(r: Reading, bytes: &[u8]) -> Reading {
-    let s = r.state;
-    let a = reader::run(s, bytes);
+fn followed_of(held: usize, bytes: &[u8], c: Counts) -> u64 {
+    let all = std::num::wrapping_add_u64(held as u64, bytes.len() as u64);
+    std::num::wrapping_sub_u64(all / 8, c.ignored as u64)
+}
+
+// A piece as the line delivered it. It refuses no state that came from fresh, so there is no verdict to look at.
+fn take_piece(r: Reading, bytes: &[u8]) -> Reading {
+    let before = r.state;
+    let a = pieces::take(before, bytes);
     let state = a.state;
     let counts: Counts = a.counts;
-    let followed = std::num::wrapping_sub_u64((bytes.len() / 8) as u64, counts.ignored as u64);
+    let followed = followed_of(before.count, bytes, counts);
     Reading {
         state,
         followed: std::num::wrapping_add_u64(r.followed, followed),
         skipped: std::num::wrapping_add_u64(r.skipped, skipped_of(counts)),
-        rest: 0,
-        again: false,
-        failed: false,
-    }
-}
-
-// A buffer's whole records. It is full while there is more, so a record is cut only at the end or by a failed read: one that two reads bring is whole here.
-fn read_some(r: Reading) -> Reading
-    ensures { λ q. ⌜ (q .again ≡ true → q .rest ≡ 0) ⌝ }
-{
-    let mut buf = io::large_buffer();
-    let f = stream::fill(&mut buf);
-    let n = f.n;
-    let rest = n % 8;
-    let whole = n - rest;
-    let q = read_records(r, &buf[..whole]);
-    let state = q.state;
-    if f.failed {
-        return Reading {
-            state,
-            followed: q.followed,
-            skipped: q.skipped,
-            rest,
-            again: false,
-            failed: true,
-        };
-    }
-    if f.ended {
-        return Reading {
-            state,
-            followed: q.followed,
-            skipped: q.skipped,
-            rest,
-            again: false,
-            failed: false,
-        };
-    }
-    Reading {
-        state,
-        followed: q.followed,
-        skipped: q.skipped,
-        rest,
         again: true,
         failed: false,
     }
 }
 
+// One read, of as many bytes as the line has ready.
+fn read_some(r: Reading) -> Reading {
+    let mut buf = io::large_buffer();
+    let f = stream::some(&mut buf);
+    let n = f.n;
+    if n == 0 {
+        let state = r.state;
+        return Reading {
+            state,
+            followed: r.followed,
+            skipped: r.skipped,
+            again: false,
+            failed: f.failed,
+        };
+    }
+    take_piece(r, &buf[..n])
+}
+
 // A proved loop has to end, and nothing says that the input does: the turns are counted down from a number that no run uses up.
-fn read_all(s: ReaderState) -> Reading {
+fn read_all(s: LineState) -> Reading {
     let mut r = Reading {
         state: s,
         followed: 0,
         skipped: 0,
-        rest: 0,
         again: true,
         failed: false,
     };
@@ -165,9 +144,10 @@ fn refuse_rest(page: &mut [u8], out: Out, rest: usize) -> Out {
     stream::warn(c, b" of 8 bytes\n")
 }
 
-fn show(page: &mut [u8], out: Out, s: ReaderState) -> Out {
+fn show(page: &mut [u8], out: Out, s: LineState) -> Out {
     let r = read_all(s);
-    let state = r.state;
+    let line = r.state;
+    let state = line.reader;
     if r.failed {
         let a = stream::read_failed(out, b"show_table");
         let b = stream::warn(
@@ -177,8 +157,8 @@ fn show(page: &mut [u8], out: Out, s: ReaderState) -> Out {
         let c = hint(b, r.followed, r.skipped);
         return say_state(page, c, lose(state));
     }
-    if r.rest != 0 {
-        return refuse_rest(page, out, r.rest);
+    if line.count != 0 {
+        return refuse_rest(page, out, line.count);
     }
     let d = hint(out, r.followed, r.skipped);
     say_state(page, d, state)
@@ -193,7 +173,7 @@ fn after_setup(page: &mut [u8], out: Out, h: Header) -> Out {
     if h.count < header::BYTES {
         return refuse_setup(page, out, h);
     }
-    let a = ReaderState::fresh(h.n as usize, h.x, h.y, h.pressure, h.major, h.minor);
+    let a = LineState::fresh(h.n as usize, h.x, h.y, h.pressure, h.major, h.minor);
     let v = a.verdict;
     if v.number() != 0 {
         return refuse_setup(page, out, h);

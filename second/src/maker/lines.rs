@@ -2,7 +2,7 @@
 
 use super::Maker;
 use crate::script::{head_numbers, reader_numbers, setup_numbers};
-use crate::script::{Call, CRANE, POD_NUMBERS, WRITER_NUMBERS};
+use crate::script::{Call, CRANE, PIECES, PIECES_NUMBERS, POD_NUMBERS, WRITER_NUMBERS};
 use crate::table::Layout;
 
 /// Numbers that a type cannot hold: the next ones outside, and such as would be cut to good ones.
@@ -19,13 +19,14 @@ const NO_SIZE: Outside = &["4097", "4097", "-1", "4294967296", "65536"];
 impl Maker {
     /// Its comment says what is wrong with the line, and nothing of the call that it was made of.
     pub(super) fn bad_line(&mut self) -> String {
-        match self.random.below(24) {
+        match self.random.below(25) {
             0..=2 => return self.near_miss(),
             3 => {
                 self.tag("line: spaces alone");
                 return " ".repeat(self.random.from_to(1, 5) as usize);
             }
             4 => return self.bad_waits(),
+            5 => return self.bad_cut(),
             _ => {}
         }
         let call = match self.call() {
@@ -48,7 +49,13 @@ impl Maker {
             6..=8 => {
                 self.tag("line: too many numbers");
                 if takes_any_count(&call) {
-                    let full = ["start", "fresh 1 2 3 4 5 6", "new 1 2 3 4 5 6", "crane_fresh 1 2 3 4"];
+                    let full = [
+                        "start",
+                        "fresh 1 2 3 4 5 6",
+                        "new 1 2 3 4 5 6",
+                        "crane_fresh 1 2 3 4",
+                        "pieces_fresh 1 2 3 4 5 6",
+                    ];
                     words = self.random.pick(&full).split(' ').map(str::to_string).collect();
                 }
                 words.push("0".to_string());
@@ -75,10 +82,42 @@ impl Maker {
         words.join(" ")
     }
 
+    /// Pieces that are together not the bytes: one length or the count is another, or a byte too many or too few.
+    fn bad_cut(&mut self) -> String {
+        let (line, lengths, bytes) = loop {
+            if let call @ Call::PiecesTake { .. } = self.pieces_call() {
+                let Call::PiecesTake { cut, .. } = &call else { unreachable!("it is one") };
+                break (call.line(), cut.lengths.clone(), cut.bytes.len());
+            }
+        };
+        self.tags.clear();
+        self.tag("line: pieces of other lengths than the bytes");
+        let mut words: Vec<String> = line.split(' ').map(str::to_string).collect();
+        let count = PIECES_NUMBERS + 1;
+        let i = self.random.below(lengths.len() as u64) as usize;
+        match self.random.below(6) {
+            0 if bytes > 0 => {
+                words.pop();
+            }
+            1 | 2 => words[count + 1 + i] = (lengths[i] + self.random.pick(&[1, 1, 1 << 32, 1 << 63])).to_string(),
+            3 if lengths[i] > 0 => words[count + 1 + i] = (lengths[i] - 1).to_string(),
+            4 => {
+                words.truncate(count);
+                words.push("0".to_string());
+            }
+            _ => words.push("0".to_string()),
+        }
+        words.join(" ")
+    }
+
     /// A good call but for its word, which a look at less than the whole word takes for the call's name.
     fn near_miss(&mut self) -> String {
         // Without this it would be rare, and its line is the only one that a word alone makes good.
-        let call = if self.random.once_in(4) { Call::Start } else { self.call() };
+        let call = match self.random.below(8) {
+            0 | 1 => Call::Start,
+            2 => self.pieces_call(),
+            _ => self.call(),
+        };
         let line = call.line();
         self.tags.clear();
         self.tag("line: a word that is nearly one");
@@ -98,6 +137,9 @@ impl Maker {
     /// What says that a call is on a crane's reader, written otherwise, or in front of a call that is on none.
     fn other_prefix(&mut self, call: &Call) -> String {
         let name = call.name();
+        if let Some(name) = name.strip_prefix(PIECES).filter(|_| self.random.once_in(2)) {
+            return self.random.pick(&["piece_", "pieces", "pieces-", "Pieces_"]).to_string() + name;
+        }
         match (call.layout(), name.strip_prefix(CRANE)) {
             (None, _) => format!("{CRANE}{name}"),
             (_, Some(name)) => {
@@ -144,7 +186,7 @@ impl Maker {
         let setup = (1..=setup_numbers(layout)).map(|place| (place, if place == 1 { NO_64_BITS } else { NO_32_BITS }));
         let (tables, last_of_head) = match call {
             Call::Start | Call::Pod { .. } => return Vec::new(),
-            Call::Fresh(..) | Call::New(_) => return setup.collect(),
+            Call::Fresh(..) | Call::New(_) | Call::PiecesFresh(_) => return setup.collect(),
             Call::Write { .. } => (1, vec![NO_32_BITS]),
             _ => (2, vec![NO_MODE, NO_MODE]),
         };
@@ -169,8 +211,16 @@ impl Maker {
             }
             Call::Run { .. } if last > state => vec![(last, NO_BYTE); 3],
             Call::One { .. } => vec![(last - 2, NO_16_BITS), (last - 1, NO_16_BITS), (last, NO_SIGNED_32)],
-            Call::Ask { .. } => vec![(last, NO_64_BITS)],
-            Call::Load { .. } if last > state => vec![(state, NO_64_BITS), (last, NO_SIGNED_32)],
+            Call::PiecesTake { .. } => {
+                let place = self.random.from_to(PIECES_NUMBERS as u64 - 6, PIECES_NUMBERS as u64) as usize;
+                let held = [(PIECES_NUMBERS - 7, NO_64_BITS), (place, NO_BYTE), (place, NO_BYTE)];
+                let cut = [(PIECES_NUMBERS + 1, NO_64_BITS), (PIECES_NUMBERS + 2, NO_64_BITS), (last, NO_BYTE)];
+                [held, cut].concat()
+            }
+            Call::Ask { .. } | Call::PiecesAsk { .. } => vec![(last, NO_64_BITS)],
+            Call::Load { .. } | Call::PiecesLoad { .. } if last > state => {
+                vec![(state, NO_64_BITS), (last, NO_SIGNED_32)]
+            }
             Call::Write { .. } => {
                 let room = [(WRITER_NUMBERS + 1, NO_64_BITS), (WRITER_NUMBERS + 2, NO_SIZE)];
                 let frame = if last > state { vec![(last, NO_SIGNED_32)] } else { Vec::new() };
@@ -186,7 +236,9 @@ fn fixed(call: &Call) -> usize {
     let layout = call.layout().unwrap_or(Layout::Panel);
     match call {
         Call::Start => 0,
-        Call::Fresh(..) | Call::New(_) => setup_numbers(layout),
+        Call::Fresh(..) | Call::New(_) | Call::PiecesFresh(_) => setup_numbers(layout),
+        Call::PiecesTake { .. } => PIECES_NUMBERS + 2,
+        Call::PiecesLoad { .. } | Call::PiecesAsk { .. } => PIECES_NUMBERS + 1,
         Call::Pod { .. } => POD_NUMBERS + 1,
         Call::Ask { .. } | Call::Load { .. } => reader_numbers(layout) + 1,
         Call::One { .. } => reader_numbers(layout) + 3,
@@ -197,7 +249,8 @@ fn fixed(call: &Call) -> usize {
 
 /// Whether more numbers than that make it another call and no bad line.
 pub(super) fn takes_any_count(call: &Call) -> bool {
-    matches!(call, Call::Run { .. } | Call::Load { .. } | Call::Write { .. } | Call::Pod { .. })
+    let is_load = matches!(call, Call::Load { .. } | Call::PiecesLoad { .. });
+    is_load || matches!(call, Call::Run { .. } | Call::Write { .. } | Call::Pod { .. })
 }
 
 /// A word that begins as the call's does.
@@ -211,6 +264,10 @@ fn other_word(call: &Call) -> String {
         Call::Ask { .. } => "all",
         Call::Write { .. } => "wrote",
         Call::Good { .. } => "get",
+        Call::PiecesFresh(_) => "pieces_first",
+        Call::PiecesTake { .. } => "pieces_tell",
+        Call::PiecesLoad { .. } => "pieces_list",
+        Call::PiecesAsk { .. } => "pieces_all",
         Call::Start => "stop",
         Call::Pod { .. } => "put",
     };

@@ -7,6 +7,7 @@ mod ids;
 mod lines;
 mod loads;
 mod numbers;
+mod pieces;
 mod pods;
 mod runs;
 mod states;
@@ -93,7 +94,7 @@ impl Maker {
     }
 
     fn call(&mut self) -> Call {
-        match self.random.below(100) {
+        match self.random.below(108) {
             0..=3 => Call::New(self.any_setup(Layout::Panel)),
             4..=32 => self.write(),
             33..=67 => self.reader_call(Layout::Panel),
@@ -102,7 +103,8 @@ impl Maker {
                 self.reader_call(Layout::Crane)
             }
             91 => Call::Start,
-            _ => self.pod(),
+            92..=99 => self.pod(),
+            _ => self.pieces_call(),
         }
     }
 
@@ -165,9 +167,13 @@ mod tests {
                 let call = Call::parse(line.as_bytes()).unwrap();
                 let good = match &call {
                     Call::Write { writer, .. } => writer.is_well_formed(),
-                    _ => call.reader().expect(comment).is_well_formed(),
+                    _ => call.pieces().map(|pieces| &pieces.reader).or(call.reader()).expect(comment).is_well_formed(),
                 };
                 assert!(!good, "{comment}\n{line}");
+            } else if comment.contains("pieces: held too many") || comment.contains("pieces: unused place") {
+                let call = Call::parse(line.as_bytes()).unwrap();
+                let pieces = call.pieces().expect(comment);
+                assert!(pieces.reader.is_well_formed() && !pieces.is_well_formed(), "{comment}\n{line}");
             } else if comment.contains("state: ") {
                 assert!(!answer.starts_with("2 ") && answer != "refused 2", "{comment}");
             }

@@ -3,11 +3,12 @@
 use std::fmt;
 
 use super::line::Line;
-use super::{marks, Call};
+use super::{marks, Call, Cut};
+use crate::pieces::PieceReader;
 use crate::pod::{Pod, Report};
 use crate::reader::{Asked, Ran, Reader};
 use crate::refusal::Refusal;
-use crate::table::SlotNumber;
+use crate::table::Layout;
 use crate::writer::{Writer, Written};
 
 impl Call {
@@ -33,9 +34,22 @@ impl Call {
                 line.verdict(&loaded);
                 line.reader(&reader);
             }
-            Call::Ask { reader, slot } => line.asked(reader, *slot),
+            Call::Ask { reader, slot } => line.asked(reader.layout, reader.ask(*slot)),
             Call::Write { writer, position, size, frame } => line.written(writer.clone(), *position, *size, frame),
             Call::Good { reader } => line.put(reader.is_well_formed() as u8),
+            Call::PiecesFresh(setup) => {
+                let made = PieceReader::fresh(*setup);
+                line.verdict(&made);
+                line.pieces(&made.unwrap_or_else(|_| PieceReader::zeros()));
+            }
+            Call::PiecesTake { pieces, cut } => line.taken(pieces.clone(), cut),
+            Call::PiecesLoad { pieces, current, image } => {
+                let mut pieces = pieces.clone();
+                let loaded = pieces.load(image, *current);
+                line.verdict(&loaded);
+                line.pieces(&pieces);
+            }
+            Call::PiecesAsk { pieces, slot } => line.asked(Layout::Panel, pieces.ask(*slot)),
             Call::Start => line.pod(&Pod::FRESH),
             Call::Pod { pod, bytes } => line.reports(*pod, bytes),
         }
@@ -51,16 +65,28 @@ impl Line {
         self.ran(ran.unwrap_or(Ran::NOTHING));
     }
 
-    fn asked(&mut self, reader: &Reader, slot: SlotNumber) {
-        match reader.ask(slot) {
+    fn asked(&mut self, layout: Layout, asked: Result<Asked, Refusal>) {
+        match asked {
             Ok(Asked::Contact(slot)) => {
                 self.put("contact");
-                self.slot(reader.layout, &slot);
+                self.slot(layout, &slot);
             }
             Ok(Asked::Empty) => self.put("empty"),
             Ok(Asked::Unknown) => self.put("unknown"),
             Ok(Asked::NoSuchSlot) => self.put("none"),
             Err(refusal) => self.refused(refusal),
+        }
+    }
+
+    fn taken(&mut self, mut pieces: PieceReader, cut: &Cut) {
+        for (i, piece) in cut.pieces().enumerate() {
+            if i > 0 {
+                self.put("/");
+            }
+            let ran = pieces.take(piece);
+            self.verdict(&ran);
+            self.pieces(&pieces);
+            self.ran(ran.unwrap_or(Ran::NOTHING));
         }
     }
 

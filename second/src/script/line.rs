@@ -2,6 +2,7 @@
 
 use std::fmt;
 
+use crate::pieces::PieceReader;
 use crate::pod::Pod;
 use crate::reader::{Mode, Ran, Reader};
 use crate::refusal::Refusal;
@@ -70,6 +71,12 @@ impl Line {
         });
         self.table(reader.layout, &reader.shown);
         self.table(reader.layout, &reader.pending);
+    }
+
+    pub(super) fn pieces(&mut self, pieces: &PieceReader) {
+        self.reader(&pieces.reader);
+        self.put(pieces.held);
+        self.all(&pieces.bytes);
     }
 
     pub(super) fn writer(&mut self, writer: &Writer) {

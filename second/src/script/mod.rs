@@ -9,6 +9,7 @@ mod tests;
 pub use answers::InWords;
 
 use crate::events::Event;
+use crate::pieces::{PieceReader, LEFT_OVER};
 use crate::pod::{Pod, PLACES};
 use crate::reader::Reader;
 use crate::table::{Layout, Setup, SlotNumber};
@@ -26,6 +27,8 @@ pub const LARGEST_BUFFER: usize = 4_096;
 pub const BAD_LINE: &str = "bad line";
 /// What the names of the calls of a crane's reader begin with.
 pub const CRANE: &str = "crane_";
+/// What those of the calls begin with that take pieces of any size.
+pub const PIECES: &str = "pieces_";
 
 // How many numbers each part has. A state stands behind one word, the call's name or the verdict, so its number i is the line's word i.
 
@@ -53,6 +56,8 @@ pub const fn reader_numbers(layout: Layout) -> usize {
 pub const WRITER_HEAD: usize = head_numbers(Layout::Panel);
 /// The head and the table.
 pub const WRITER_NUMBERS: usize = WRITER_HEAD + table_numbers(Layout::Panel);
+/// The reader, how many bytes are held, and the places.
+pub const PIECES_NUMBERS: usize = reader_numbers(Layout::Panel) + 1 + LEFT_OVER;
 /// Whether it waits, how many bytes are held, and the places.
 pub const POD_NUMBERS: usize = 2 + PLACES;
 
@@ -67,8 +72,37 @@ pub enum Call {
     Ask { reader: Reader, slot: SlotNumber },
     Write { writer: Writer, position: u64, size: usize, frame: Vec<i32> },
     Good { reader: Reader },
+    PiecesFresh(Setup),
+    PiecesTake { pieces: PieceReader, cut: Cut },
+    PiecesLoad { pieces: PieceReader, current: SlotNumber, image: Vec<i32> },
+    PiecesAsk { pieces: PieceReader, slot: SlotNumber },
     Start,
     Pod { pod: Pod, bytes: Vec<u8> },
+}
+
+/// A string of bytes and the lengths of the pieces that it is cut into, which together are its own.
+#[derive(Clone, PartialEq, Eq, Debug)]
+pub struct Cut {
+    pub lengths: Vec<u64>,
+    pub bytes: Vec<u8>,
+}
+
+impl Cut {
+    /// The pieces in their order.
+    pub fn pieces(&self) -> impl Iterator<Item = &[u8]> {
+        let mut rest = &self.bytes[..];
+        self.lengths.iter().map(move |length| {
+            let (piece, behind) = rest.split_at(*length as usize);
+            rest = behind;
+            piece
+        })
+    }
+
+    /// Whether there is a piece, and the lengths are together as many as the bytes.
+    pub fn is_whole(&self) -> bool {
+        let together = self.lengths.iter().try_fold(0u64, |sum, length| sum.checked_add(*length));
+        !self.lengths.is_empty() && together == Some(self.bytes.len() as u64)
+    }
 }
 
 /// The marks that a buffer holds before a `write`.
@@ -111,6 +145,7 @@ impl Call {
         let (layout, name) = layout_of(word);
         let call = match (layout, name) {
             (Layout::Panel, "new" | "write" | "start" | "pod") => numbers.other_call(name)?,
+            (Layout::Panel, _) if name.starts_with(PIECES) => numbers.pieces_call(name)?,
             _ => numbers.reader_call(layout, name)?,
         };
         numbers.is_done().then_some(call)
@@ -132,7 +167,17 @@ impl Call {
             | Call::Load { reader, .. }
             | Call::Ask { reader, .. }
             | Call::Good { reader } => Some(reader),
-            Call::Fresh(..) | Call::New(_) | Call::Write { .. } | Call::Start | Call::Pod { .. } => None,
+            _ => None,
+        }
+    }
+
+    /// The reader of pieces whose state the call carries.
+    pub fn pieces(&self) -> Option<&PieceReader> {
+        match self {
+            Call::PiecesTake { pieces, .. } | Call::PiecesLoad { pieces, .. } | Call::PiecesAsk { pieces, .. } => {
+                Some(pieces)
+            }
+            _ => None,
         }
     }
 
@@ -147,6 +192,10 @@ impl Call {
             Call::Ask { .. } => "ask",
             Call::Write { .. } => "write",
             Call::Good { .. } => "good",
+            Call::PiecesFresh(_) => "pieces_fresh",
+            Call::PiecesTake { .. } => "pieces_take",
+            Call::PiecesLoad { .. } => "pieces_load",
+            Call::PiecesAsk { .. } => "pieces_ask",
             Call::Start => "start",
             Call::Pod { .. } => "pod",
         };
@@ -159,7 +208,10 @@ impl Call {
         let mut line = Line::from(self.name());
         match self {
             Call::Fresh(layout, setup) => line.setup(*layout, setup),
-            Call::New(setup) => line.setup(Layout::Panel, setup),
+            Call::New(setup) | Call::PiecesFresh(setup) => line.setup(Layout::Panel, setup),
+            Call::PiecesTake { pieces, .. } | Call::PiecesLoad { pieces, .. } | Call::PiecesAsk { pieces, .. } => {
+                line.pieces(pieces);
+            }
             Call::Write { writer, .. } => line.writer(writer),
             Call::Pod { pod, .. } => line.pod(pod),
             Call::Start => {}
@@ -181,17 +233,22 @@ impl Call {
                 line.all(&[event.kind, event.code]);
                 line.put(event.value);
             }
-            Call::Load { current, image, .. } => {
+            Call::Load { current, image, .. } | Call::PiecesLoad { current, image, .. } => {
                 line.put(current.0);
                 line.all(image);
             }
-            Call::Ask { slot, .. } => line.put(slot.0),
+            Call::Ask { slot, .. } | Call::PiecesAsk { slot, .. } => line.put(slot.0),
+            Call::PiecesTake { cut, .. } => {
+                line.put(cut.lengths.len());
+                line.all(&cut.lengths);
+                line.all(&cut.bytes);
+            }
             Call::Write { position, size, frame, .. } => {
                 line.put(position);
                 line.put(size);
                 line.all(frame);
             }
-            Call::Fresh(..) | Call::New(_) | Call::Good { .. } | Call::Start => {}
+            Call::Fresh(..) | Call::New(_) | Call::Good { .. } | Call::PiecesFresh(_) | Call::Start => {}
         }
     }
 }

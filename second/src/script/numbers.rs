@@ -1,7 +1,8 @@
 //! The numbers of a line, and the calls that they make.
 
-use super::{Call, LARGEST_BUFFER, MOST_NUMBERS};
+use super::{Call, Cut, LARGEST_BUFFER, MOST_NUMBERS};
 use crate::events::Event;
+use crate::pieces::{PieceReader, LEFT_OVER};
 use crate::pod::{Pod, PLACES};
 use crate::reader::{Mode, Reader};
 use crate::table::{Layout, Setup, SlotNumber, Table, TrackingId, EMPTY};
@@ -65,6 +66,31 @@ impl Numbers {
         })
     }
 
+    /// A call of the reader that takes pieces.
+    pub(super) fn pieces_call(&mut self, name: &str) -> Option<Call> {
+        Some(match name {
+            "pieces_fresh" => Call::PiecesFresh(self.setup(Layout::Panel)?),
+            "pieces_take" => Call::PiecesTake { pieces: self.pieces()?, cut: self.cut()? },
+            "pieces_load" => {
+                let pieces = self.pieces()?;
+                Call::PiecesLoad { pieces, current: SlotNumber(self.one()?), image: self.rest()? }
+            }
+            "pieces_ask" => Call::PiecesAsk { pieces: self.pieces()?, slot: SlotNumber(self.one()?) },
+            _ => return None,
+        })
+    }
+
+    /// How many pieces there are, the length of each, and the bytes of all of them.
+    fn cut(&mut self) -> Option<Cut> {
+        let count: usize = self.one()?;
+        // Not as many as the count says: that may be any number.
+        let mut lengths = Vec::new();
+        for _ in 0..count {
+            lengths.push(self.one()?);
+        }
+        Some(Cut { lengths, bytes: self.rest()? }).filter(Cut::is_whole)
+    }
+
     fn one<T: TryFrom<i128>>(&mut self) -> Option<T> {
         T::try_from(self.0.next()?).ok()
     }
@@ -106,6 +132,14 @@ impl Numbers {
             shown: self.table(layout)?,
             pending: self.table(layout)?,
         })
+    }
+
+    fn pieces(&mut self) -> Option<PieceReader> {
+        let mut pieces = PieceReader { reader: self.reader(Layout::Panel)?, held: self.one()?, bytes: [0; LEFT_OVER] };
+        for byte in &mut pieces.bytes {
+            *byte = self.one()?;
+        }
+        Some(pieces)
     }
 
     fn writer(&mut self) -> Option<Writer> {

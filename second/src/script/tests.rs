@@ -22,6 +22,7 @@ fn as_many_numbers_as_the_page_says() {
     assert_eq!(reader_numbers(Layout::Panel), 392);
     assert_eq!(WRITER_NUMBERS, 200);
     assert_eq!(reader_numbers(Layout::Crane), 134);
+    assert_eq!(PIECES_NUMBERS, 400);
 }
 
 #[test]
@@ -59,6 +60,52 @@ fn a_contact_has_six_numbers_here_and_four_there() {
     let stale = format!("1 9 9 9 0 2 {table}{table}");
     assert_eq!(answer(&format!("crane_load {stale}0 5 1 2 3")), format!("0 1 9 9 9 0 0 {table}{table}").trim_end());
     assert_eq!(answer(&format!("crane_load {stale}0 5 1 2 3 4 5")), format!("8 {stale}").trim_end());
+}
+
+/// A report in two pieces with an empty one between them, behind two of its bytes.
+#[test]
+fn pieces_are_answered_one_by_one() {
+    let reader = format!("1 4000 4000 255 255 255 0 0 {0}{0}", empty());
+    let nothing = "0 0 0 0 0 none";
+    assert_eq!(
+        answer(&format!("pieces_take {reader}2 0 0 0 0 0 0 0 3 3 0 4 0 0 0 7 8 9 5")),
+        format!(
+            "0 {reader}5 0 0 0 0 0 0 0 {nothing} / 0 {reader}5 0 0 0 0 0 0 0 {nothing} / \
+             0 {reader}1 5 0 0 0 0 0 0 1 0 0 0 0 none"
+        )
+    );
+    let broken = format!("{reader}8 0 0 0 0 0 0 0");
+    assert_eq!(answer(&format!("pieces_take {broken} 2 0 0")), format!("2 {broken} {nothing} / 2 {broken} {nothing}"));
+    assert_eq!(answer(&format!("pieces_ask {broken} 0")), "refused 2");
+    assert_eq!(answer(&format!("pieces_ask {reader}1 9 0 0 0 0 0 0 0")), "empty");
+    assert_eq!(answer(&format!("pieces_load {reader}1 9 0 0 0 0 0 0 0")), format!("7 {reader}1 9 0 0 0 0 0 0"));
+    assert_eq!(answer("pieces_fresh 1 4000 4000 255 255 255"), format!("0 {reader}0 0 0 0 0 0 0 0"));
+    assert_eq!(answer("pieces_fresh 33 1 1 1 1 1"), format!("1{}", " 0".repeat(PIECES_NUMBERS)));
+}
+
+#[test]
+fn pieces_that_are_not_the_bytes() {
+    let state = format!("1 9 9 9 9 9 0 0 {0}{0}0 0 0 0 0 0 0 0", empty());
+    for cut in ["1 0", "2 0 0", "1 2 7 7", "3 0 2 0 7 7"] {
+        assert_ne!(answer(&format!("pieces_take {state} {cut}")), BAD_LINE, "{cut}");
+    }
+    for cut in [
+        "",
+        "0",
+        "1",
+        "0 7",
+        "1 1",
+        "1 0 7",
+        "1 2 7",
+        "2 1 7",
+        "1 1 256",
+        "1 -1",
+        "2 18446744073709551615 1",
+        "2 18446744073709551615 2 7",
+        "18446744073709551615 1 7",
+    ] {
+        assert_eq!(answer(&format!("pieces_take {state} {cut}")), BAD_LINE, "{cut}");
+    }
 }
 
 #[test]
@@ -117,6 +164,10 @@ fn lines_that_are_no_call() {
         "crane_start".to_string(),
         "crane_".to_string(),
         "crane_crane_fresh 1 2 3 4".to_string(),
+        "crane_pieces_fresh 1 2 3 4 5 6".to_string(),
+        "pieces_fresh 1 2 3 4".to_string(),
+        "pieces_".to_string(),
+        "pieces_run 1 2 3 4 5 6".to_string(),
         "pod 0 0 0 0 0 0 0 256".to_string(),
         "pod 0 0 0 0 0 0 0".to_string(),
         "pod 2 0 0 0 0 0 0 1".to_string(),
@@ -135,7 +186,7 @@ fn lines_that_are_no_call() {
     }
 }
 
-const NAMES: [&str; 16] = [
+const NAMES: [&str; 20] = [
     "fresh",
     "new",
     "run",
@@ -152,6 +203,10 @@ const NAMES: [&str; 16] = [
     "crane_load",
     "crane_ask",
     "crane_good",
+    "pieces_fresh",
+    "pieces_take",
+    "pieces_load",
+    "pieces_ask",
 ];
 
 /// Numbers with which that name is a call.
@@ -169,6 +224,9 @@ fn numbers_for(name: &str) -> String {
         (_, "load" | "ask") => format!("{reader}0"),
         (_, "write") => format!("1 9 9 9 9 9 0 0 {}0 0 0 0 0 0 0 0", empty()),
         (_, "pod") => "0 0 0 0 0 0 0 1".to_string(),
+        (_, "pieces_fresh") => "1 2 3 4 5 6".to_string(),
+        (_, "pieces_take") => format!("{reader}0 0 0 0 0 0 0 0 2 1 0 9"),
+        (_, "pieces_load" | "pieces_ask") => format!("{reader}0 0 0 0 0 0 0 0 0"),
         _ => String::new(),
     }
 }

@@ -1,6 +1,7 @@
 //! What a script and its answers showed: how often each verdict, mode, count and answer occurred, and what never did.
 
 mod expected;
+mod pieces;
 mod reading;
 #[cfg(test)]
 mod tests;
@@ -86,12 +87,14 @@ impl Tally {
         };
         let name = call.name();
         match &call {
-            Call::Ask { .. } if verdict != "contact" => self.note(format!("{name} {answer}")),
+            Call::Ask { .. } | Call::PiecesAsk { .. } if verdict != "contact" => self.note(format!("{name} {answer}")),
+            Call::PiecesTake { pieces, cut } => self.count_pieces(pieces, cut, answer),
             Call::Pod { .. } => answer.split(" / ").for_each(|step| self.count_step(step)),
             _ => self.note(format!("{name} {verdict}")),
         }
         self.count_width(&call, &said);
         match &call {
+            Call::PiecesLoad { pieces, .. } => self.count_between(pieces, &said),
             Call::Load { reader, .. } if verdict == "7" => {
                 self.note(format!("{name}: refused while {}", mode_name(reader.mode)));
             }

@@ -6,7 +6,7 @@ use crate::reader::{Mode, Reader};
 use crate::script::{reader_numbers, Call};
 use crate::table::{Layout, MAJOR, MINOR};
 
-const COUNTS: [&str; 5] = ["tables shown", "unknown type", "unknown code", "bad", "ignored"];
+pub(super) const COUNTS: [&str; 5] = ["tables shown", "unknown type", "unknown code", "bad", "ignored"];
 const SIZES: [(&str, u16, usize); 2] = [("major", ABS_MT_TOUCH_MAJOR, MAJOR), ("minor", ABS_MT_TOUCH_MINOR, MINOR)];
 
 impl Tally {

@@ -1,12 +1,14 @@
 //! Mistakes in how a line is read: its limits, its word, its spaces and its numbers.
 
 use second::script::{answer_line, head_numbers, layout_of, Call};
-use second::script::{BAD_LINE, CRANE, LARGEST_BUFFER, LONGEST_LINE, MOST_NUMBERS, POD_NUMBERS};
+use second::script::{
+    BAD_LINE, CRANE, LARGEST_BUFFER, LONGEST_LINE, MOST_NUMBERS, PIECES, PIECES_NUMBERS, POD_NUMBERS,
+};
 use second::table::Layout;
 
 use crate::wrong::{answers, Wrong};
 
-const NAMES: [&str; 16] = [
+const NAMES: [&str; 20] = [
     "fresh",
     "new",
     "run",
@@ -23,6 +25,10 @@ const NAMES: [&str; 16] = [
     "crane_load",
     "crane_ask",
     "crane_good",
+    "pieces_fresh",
+    "pieces_take",
+    "pieces_load",
+    "pieces_ask",
 ];
 
 /// It reads a line that is no call as another line.
@@ -80,6 +86,20 @@ fn with_mode(line: &str, layout: Layout) -> Option<String> {
     Some(all.join(" "))
 }
 
+/// A line of pieces with other lengths or bytes, where its numbers are such that they can be told apart.
+fn with_cut(line: &str, change: impl Fn(&mut Vec<u64>, &mut Vec<u8>)) -> Option<String> {
+    let all: Vec<&str> = words(line).collect();
+    let (state, cut) = (all.get(..=PIECES_NUMBERS)?, all.get(1 + PIECES_NUMBERS..)?);
+    let count: usize = cut.first().filter(|_| state[0] == "pieces_take")?.parse().ok()?;
+    let (lengths, bytes) = (cut.get(1..)?.get(..count)?, &cut[1..][count..]);
+    let length = |word: &&str| word.parse().ok().filter(|length| *length < 1 << 40);
+    let mut lengths = lengths.iter().map(length).collect::<Option<Vec<u64>>>()?;
+    let mut bytes = bytes.iter().map(|word| word.parse().ok()).collect::<Option<Vec<u8>>>()?;
+    change(&mut lengths, &mut bytes);
+    let numbers = lengths.iter().map(u64::to_string).chain(bytes.iter().map(u8::to_string));
+    Some(numbers.fold(format!("{} {}", state.join(" "), lengths.len()), |line, number| line + " " + &number))
+}
+
 /// A number without zeros in front.
 fn plain(word: &str) -> String {
     word.parse::<i128>().map_or(word.to_string(), |number| number.to_string())
@@ -115,6 +135,29 @@ fn limits() -> Vec<Wrong> {
         forgives("a pod needs no byte", |line| {
             (line.starts_with("pod ") && numbers(line) == POD_NUMBERS).then(|| "start".to_string())
         }),
+        forgives("bytes behind the last piece are left out", |line| {
+            with_cut(line, |lengths, bytes| bytes.truncate(lengths.iter().sum::<u64>() as usize))
+        }),
+        forgives("the last piece has what bytes there are", |line| {
+            with_cut(line, |lengths, bytes| {
+                if let Some((last, others)) = lengths.split_last_mut() {
+                    *last = (bytes.len() as u64).saturating_sub(others.iter().sum());
+                }
+            })
+        }),
+        forgives("bytes that are missing are 0", |line| {
+            with_cut(line, |lengths, bytes| {
+                let length = lengths.iter().sum::<u64>().min(1 << 12) as usize;
+                bytes.resize(bytes.len().max(length), 0);
+            })
+        }),
+        forgives("the count of pieces may be 0", |line| {
+            with_cut(line, |lengths, _| {
+                if lengths.is_empty() {
+                    lengths.push(0);
+                }
+            })
+        }),
         forgives("a pod without its waits is a fresh one", |line| {
             line.strip_prefix("pod ").map(|numbers| format!("pod 1 {numbers}"))
         }),
@@ -135,6 +178,11 @@ fn spelling() -> Vec<Wrong> {
         forgives("any word in front says that it is a crane's", |line| {
             with_word(line, |name, word| {
                 name.strip_prefix(CRANE).is_some_and(|name| word.split_once('_').is_some_and(|(_, word)| word == name))
+            })
+        }),
+        forgives("what says that it is of pieces may be cut", |line| {
+            with_word(line, |name, word| {
+                name.strip_prefix(PIECES).is_some_and(|name| word.strip_prefix("piece_") == Some(name))
             })
         }),
         forgives("a capital is a small letter", |line| with_word(line, |name, word| name == word.to_lowercase())),

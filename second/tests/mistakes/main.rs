@@ -8,6 +8,7 @@ mod headers;
 mod lines;
 mod loads;
 mod losses;
+mod pieces;
 mod pods;
 mod pressures;
 mod records;
@@ -154,6 +155,11 @@ fn of_wide_panels() {
 }
 
 #[test]
+fn of_pieces() {
+    all_are_noticed("pieces", On::All, pieces::all());
+}
+
+#[test]
 fn of_headers() {
     for wrong in headers::all() {
         let noticed = SEEDS.iter().map(|seed| wrong.noticed(*seed)).collect::<Option<Vec<u64>>>();
@@ -180,6 +186,7 @@ fn without_a_mistake_nothing_is_noticed() {
         wrong::says("words", |_, _| {}),
         wrong::steps("records", wrong::right_step),
         wrong::pods("pods", |pod, byte| pod.take(byte)),
+        wrong::cuts("pieces", |pieces, piece| pieces.take(piece)),
         slow_writer::writes("frames", |_| {}),
     ];
     assert_eq!(noticed(&right, On::All, 4), vec![None; right.len()]);

@@ -1,10 +1,12 @@
 //! What a wrong program is: it answers as the rules do, but for one mistake. The mistake stands around the rules and never in them.
 
 use second::events::{events, Event, EV_ABS, EV_SYN};
+use second::pieces::PieceReader;
 use second::pod::{Pod, Report};
 use second::reader::{Ran, Reader};
 use second::refusal::Refusal;
-use second::script::{marks, reader_numbers, Call, InWords, WRITER_NUMBERS};
+use second::script::{marks, reader_numbers, Call, InWords, PIECES_NUMBERS, WRITER_NUMBERS};
+use second::table::SlotNumber;
 use second::writer::Writer;
 
 /// A line of a script, what it is, and the right answer.
@@ -138,12 +140,40 @@ fn pod_step(pod: &mut Pod, take: impl Fn(&mut Pod) -> Result<Report, Refusal>) -
     }
 }
 
+/// It takes a piece otherwise.
+pub fn cuts(
+    name: impl Into<String>,
+    take: impl Fn(&mut PieceReader, &[u8]) -> Result<Ran, Refusal> + 'static,
+) -> Wrong {
+    answers(name, move |asked| {
+        let Call::PiecesTake { pieces, cut } = asked.call? else {
+            return None;
+        };
+        let mut state = pieces.clone();
+        let mut step = |piece: &[u8]| {
+            let taken = take(&mut state, piece);
+            taken_text(&state, &taken)
+        };
+        let steps: Vec<String> = cut.pieces().map(&mut step).collect();
+        Some(steps.join(" / "))
+    })
+}
+
+/// What one piece is answered: the verdict, the state behind it and what was told.
+pub fn taken_text(state: &PieceReader, taken: &Result<Ran, Refusal>) -> String {
+    let (verdict, ran) = match taken {
+        Ok(ran) => (0, *ran),
+        Err(refusal) => (refusal.number(), Ran::NOTHING),
+    };
+    format!("{verdict} {} {}", pieces_text(state), ran_text(&ran))
+}
+
 /// The number of the refusal that an answer is; 0 for none.
 pub fn refusal(answer: &str, call: &Call) -> u8 {
     let first = answer.split(' ').next().unwrap_or("");
     match call {
         Call::Good { .. } => 2 * u8::from(first == "0"),
-        Call::Ask { .. } => 2 * u8::from(first == "refused"),
+        Call::Ask { .. } | Call::PiecesAsk { .. } => 2 * u8::from(first == "refused"),
         Call::Start | Call::Pod { .. } => 2 * u8::from(answer.ends_with("refused 2")),
         _ => first.parse().expect("a verdict"),
     }
@@ -163,11 +193,17 @@ fn refused(call: &Call, number: u8) -> String {
     match call {
         Call::Fresh(layout, _) => format!("{number}{}", " 0".repeat(reader_numbers(*layout))),
         Call::New(_) => format!("{number}{}", " 0".repeat(WRITER_NUMBERS)),
+        Call::PiecesFresh(_) => format!("{number}{}", " 0".repeat(PIECES_NUMBERS)),
+        Call::PiecesTake { pieces, cut } => {
+            let step = format!("{number} {} {}", pieces_text(pieces), ran_text(&Ran::NOTHING));
+            vec![step; cut.lengths.len()].join(" / ")
+        }
+        Call::PiecesLoad { pieces, .. } => format!("{number} {}", pieces_text(pieces)),
         Call::Run { reader, .. } | Call::One { reader, .. } => {
             format!("{number} {} {}", reader_text(reader), ran_text(&Ran::NOTHING))
         }
         Call::Load { reader, .. } => format!("{number} {}", reader_text(reader)),
-        Call::Ask { .. } => format!("refused {number}"),
+        Call::Ask { .. } | Call::PiecesAsk { .. } => format!("refused {number}"),
         Call::Good { .. } => "0".to_string(),
         Call::Write { writer, size, .. } => {
             format!("{number} {} 0 0 0 :{}", writer_text(writer), bytes_text(&marks(*size)))
@@ -179,6 +215,12 @@ fn refused(call: &Call, number: u8) -> String {
 /// Its numbers as they stand in a line.
 pub fn reader_text(reader: &Reader) -> String {
     numbers_of(&Call::Good { reader: reader.clone() })
+}
+
+/// Its numbers as they stand in a line.
+pub fn pieces_text(pieces: &PieceReader) -> String {
+    let asked = Call::PiecesAsk { pieces: pieces.clone(), slot: SlotNumber(0) };
+    numbers_of(&asked).strip_suffix(" 0").expect("a slot").to_string()
 }
 
 /// Its numbers as they stand in a line.

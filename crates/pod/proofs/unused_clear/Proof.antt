@@ -8,7 +8,7 @@ use lib.ListN.{length, getD, drop, drop-of-length-le}
 use borrow.Author.Needs.{needs}
 use borrow.Author.Tests.{eq-eqb, ne-eqb}
 use Rattle.model.specs.Pod.{places, zeros}
-use Rattle.pod.proofs.Laws.{clear-from}
+use Rattle.model.proofs.Places.{clear-from}
 use Rattle.pod.proofs.unused_clear.Statement.{statement}
 use Rattle.pod.proofs.unused_clear.Tie as tie
 

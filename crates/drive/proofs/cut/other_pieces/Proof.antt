@@ -1,0 +1,68 @@
+-- `other_pieces` ends: the pieces left fall. Assumes nothing.
+use Prim.Native.Nat.{_-_}
+use mathlib.Core.Path.{_≡_}
+use lib.ListN.{length}
+use borrow.Author.Needs.{needs}
+use Rattle.drive.proofs.cut.other_pieces.Statement.{statement}
+use Rattle.drive.proofs.cut.other_pieces.Tie as tie
+
+abbrev Inv-loop : tie.InvT-loop
+Inv-loop page₀ ns bytes end t₀ i₀ t8 page t i = length page ≡ length page₀
+
+abbrev μ-loop : tie.MeasureT-loop
+μ-loop page₀ ns bytes end t₀ i₀ t8 page t i = end - i
+
+add-end : tie.Need-add-end Inv-loop μ-loop
+add-end c = search needs
+
+count-of-requires : tie.Need-count-of-requires Inv-loop μ-loop
+count-of-requires c κs = search needs
+
+add-end-2 : tie.Need-add-end-2 Inv-loop μ-loop
+add-end-2 c = search needs
+
+add-i : tie.Need-add-i Inv-loop μ-loop
+add-i c = search needs
+
+loop-holds : tie.Need-loop-holds Inv-loop μ-loop
+loop-holds c = search needs
+
+slice-aggregate-step : tie.Need-slice-aggregate-step Inv-loop μ-loop
+slice-aggregate-step c = search needs
+
+step-requires : tie.Need-step-requires Inv-loop μ-loop
+step-requires c κs = search needs
+
+add-i-2 : tie.Need-add-i-2 Inv-loop μ-loop
+add-i-2 c = search needs
+
+loop-less : tie.Need-loop-less Inv-loop μ-loop
+loop-less c = search needs
+
+loop-again : tie.Need-loop-again Inv-loop μ-loop
+loop-again c = search needs
+
+same-length : tie.Need-same-length Inv-loop μ-loop
+same-length c = search needs
+
+returns : tie.Need-returns Inv-loop μ-loop
+returns c = search needs
+
+pub other-pieces-spec : {M : Type 1} → statement M
+other-pieces-spec =
+    tie.close
+    (tie.spec
+    Inv-loop
+    μ-loop
+    add-end
+    count-of-requires
+    add-end-2
+    add-i
+    loop-holds
+    slice-aggregate-step
+    step-requires
+    add-i-2
+    loop-less
+    loop-again
+    same-length
+    returns)
