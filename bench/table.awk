@@ -1,4 +1,4 @@
-# Prints a benchmark's table. Reads its limits (load, n, the most that Rattle over Rust in place may be), then its counts (load, n, version, instructions). Ends with 1 where a limit is missed.
+# Prints a benchmark's table. Reads its limits (load, n, the most that the last version over Rust in place may be, or over the first version where no Rust is), then its counts (load, n, version, instructions). Ends with 1 where a limit is missed.
 /^#/ { next }
 
 FNR == NR {
@@ -30,9 +30,10 @@ FNR == NR {
 
 END {
   if (failed) exit failed
+  measure = ("inplace" in known) ? "inplace" : version[1]
   head()
   for (r = 1; r <= rows; r++) line(r)
-  printf "limits (Rattle / Rust in place): %d met, %d missed%s\n", met, missed, told
+  printf "limits (%s / %s): %d met, %d missed%s\n", version[versions], measure, met, missed, told
   exit missed > 0
 }
 
@@ -56,7 +57,7 @@ function line(r, v) {
 }
 
 function judged(r, limit) {
-  if (ratio(r, "inplace") <= limit) {
+  if (ratio(r, measure) <= limit) {
     met++
     return limit " met"
   }

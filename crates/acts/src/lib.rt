@@ -1,139 +1,78 @@
-// What a record asks of a reader: the one place where the code knows event codes and ranges. The reader's loop stands on it.
+// What a record asks of a reader, by its type and code: the one place where the code tells them apart. The reader's loop stands on it.
 ghost use mathlib.Core.Path.{_≡_};
-ghost use mathlib.Core.Bool.{true, cond};
-ghost use Prim.Native.Nat.{_≤_};
-ghost use Rattle.model.specs.Panel.{base, setupGood, idField, records, slotCode};
-ghost use Rattle.model.specs.Table.{fits};
-ghost use Rattle.model.specs.Events.{bad, number, later, numberAct, slotAct, synAct, absAct, classify};
-ghost use Rattle.model.specs.Records.{signedOf};
-ghost use Rattle.panel.specs.Seen.{setupOf, axesOf, panelSeen};
-ghost use Rattle.records.specs.Seen.{eventOf};
-ghost use Rattle.acts.specs.Seen.{actOf, sizesOf};
+ghost use lib.IntN.{ℤ};
+ghost use Rattle.model.specs.Events.{classify};
+ghost use Rattle.panel.specs.Seen.{panelSeen};
+ghost use Rattle.panel.specs.declared.Setup.{Setup};
+ghost use Rattle.records.specs.Seen.{headed};
+ghost use Rattle.acts.specs.Seen.{actOf, unlistedAct};
 
-// A record that is unknown says only why: its type and code are at hand, and numbers beside those of the other acts cost the reader's loop dear. A good number comes as what is stored: a slot number, an id, or an unsigned number.
+// What a record asks, and no number: an act with a number in it is made as a value first and then looked at again. The loop judges a value in the act's arm.
 pub enum Act {
     UnknownType,
     UnknownCode,
-    Bad,
     Report,
     Loss,
-    Select(common::SlotNumber),
-    Id(common::TrackingId),
-    X(u32),
-    Y(u32),
-    Pressure(u32),
-    Major(u32),
-    Minor(u32),
+    Select,
+    Id,
+    X,
+    Y,
+    Pressure,
+    Major,
+    Minor,
 }
 
-// The bits of -1, an unused slot's id.
-const UNUSED: u32 = 0xffff_ffff;
+// A head is a record's type and code as one number, that of its first four bytes: the type in the lower half, the code in the upper.
+const HALF: u32 = 65536;
 
-fn syn_act(code: u16) -> Act
-    ensures { λ r. ⌜ actOf 0 code r ≡ synAct code ⌝ }
-{
-    if code == records::REPORT {
-        return Act::Report;
-    }
-    if code == records::DROPPED {
-        return Act::Loss;
-    }
-    Act::UnknownCode
-}
+// The heads of type 3 lie close together, so one jump tells the seven apart.
+const ABS: u32 = records::ABS as u32;
 
-// A negative value has the bits of a number far above every n, so one comparison judges it.
-fn slot_act(n: usize, value: u32) -> Act
-    requires { ⌜ n ≤ records ⌝ }
-    ensures { λ r. ⌜ actOf 3 slotCode r ≡ slotAct n (signedOf value) ⌝ }
-{
-    let k = value as usize;
-    if k < n {
-        return Act::Select(common::SlotNumber(k));
-    }
-    Act::Bad
-}
+const SLOT: u32 = ABS + HALF * records::SLOT as u32;
 
-fn id_act(value: u32) -> Act
-    ensures { λ r. ⌜ actOf 3 (idField .code) r ≡ cond (fits idField (signedOf value)) (number 0 (signedOf value)) bad ⌝ }
-{
-    if value == UNUSED {
-        return Act::Id(common::TrackingId(common::TrackingId::UNUSED));
-    }
-    if value < common::TrackingId::COUNT {
-        let id = value as i32;
-        return Act::Id(common::TrackingId(id));
-    }
-    Act::Bad
-}
+const MAJOR: u32 = ABS + HALF * records::TOUCH_MAJOR as u32;
 
-// The sizes, which are the fifth and sixth number of a slot.
-fn size_act(setup: panel::Setup, code: u16, value: u32) -> Act
-    requires { ⌜ setupGood base (setupOf setup) ≡ true ⌝ }
-    ensures { λ r. ⌜ actOf 3 code r ≡ later (later (later (later (numberAct (sizesOf setup) code (signedOf value))))) ⌝ }
-{
-    if code == records::TOUCH_MAJOR {
-        if value <= setup.major {
-            return Act::Major(value);
-        }
-        return Act::Bad;
-    }
-    if code == records::TOUCH_MINOR {
-        if value <= setup.minor {
-            return Act::Minor(value);
-        }
-        return Act::Bad;
-    }
-    Act::UnknownCode
-}
+const MINOR: u32 = ABS + HALF * records::TOUCH_MINOR as u32;
 
-fn axis_act(setup: panel::Setup, code: u16, value: u32) -> Act
-    requires { ⌜ setupGood base (setupOf setup) ≡ true ⌝ }
-    ensures { λ r. ⌜ actOf 3 code r ≡ later (numberAct (axesOf setup) code (signedOf value)) ⌝ }
-{
-    if code == records::POSITION_X {
-        if value <= setup.x {
-            return Act::X(value);
-        }
-        return Act::Bad;
-    }
-    if code == records::POSITION_Y {
-        if value <= setup.y {
-            return Act::Y(value);
-        }
-        return Act::Bad;
-    }
-    if code == records::PRESSURE {
-        if value <= setup.pressure {
-            return Act::Pressure(value);
-        }
-        return Act::Bad;
-    }
-    size_act(setup, code, value)
-}
+const X: u32 = ABS + HALF * records::POSITION_X as u32;
 
-fn abs_act(setup: panel::Setup, code: u16, value: u32) -> Act
-    requires { ⌜ setupGood base (setupOf setup) ≡ true ⌝ }
-    ensures { λ r. ⌜ actOf 3 code r ≡ absAct (panelSeen setup) code (signedOf value) ⌝ }
-{
-    if code == records::SLOT {
-        return slot_act(setup.n, value);
-    }
-    if code == records::TRACKING_ID {
-        return id_act(value);
-    }
-    axis_act(setup, code, value)
-}
+const Y: u32 = ABS + HALF * records::POSITION_Y as u32;
 
-pub fn act_of(setup: panel::Setup, e: records::Event) -> Act
-    requires { ⌜ setupGood base (setupOf setup) ≡ true ⌝ }
-    ensures { λ r. ⌜ actOf (e .kind) (e .code) r ≡ classify (panelSeen setup) (eventOf e) ⌝ }
+const ID: u32 = ABS + HALF * records::TRACKING_ID as u32;
+
+const PRESSURE: u32 = ABS + HALF * records::PRESSURE as u32;
+
+// What a record asks that is of no slot and no number: on the way that few records take.
+fn other_act(kind: u16, code: u16) -> Act
+    ensures { λ r. ⌜ ((u : Setup) (v : ℤ) → actOf u (record { type = kind; code = code; value = v }) r ≡ unlistedAct kind code) ⌝ }
 {
-    let kind = e.kind;
     if kind == records::SYN {
-        return syn_act(e.code);
+        if code == records::REPORT {
+            return Act::Report;
+        }
+        if code == records::DROPPED {
+            return Act::Loss;
+        }
+        return Act::UnknownCode;
     }
     if kind == records::ABS {
-        return abs_act(setup, e.code, e.value);
+        return Act::UnknownCode;
     }
     Act::UnknownType
+}
+
+// Whatever the setup and the record's value: the promise is of every event with this head.
+pub fn act_of(head: u32) -> Act
+    ensures { λ r. ⌜ ((u : Setup) (v : ℤ) → actOf u (headed head v) r ≡ classify (panelSeen u) (headed head v)) ⌝ }
+{
+    match head {
+        SLOT => Act::Select,
+        MAJOR => Act::Major,
+        MINOR => Act::Minor,
+        X => Act::X,
+        Y => Act::Y,
+        ID => Act::Id,
+        PRESSURE => Act::Pressure,
+        _ => other_act((head % HALF) as u16, (head / HALF) as u16),
+    }
 }

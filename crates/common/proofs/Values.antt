@@ -1,5 +1,5 @@
--- What a slot number, an id or another number asks, by the raw 32 bits that it came in. Cited by the proofs of the acts, the product's and the cranes'. Assumes nothing.
-use mathlib.Core.Path.{_≡_, refl}
+-- What a slot number, an id or another number asks, by the raw 32 bits that it came in. Cited by `follow` and by the cranes' acts. Assumes nothing.
+use mathlib.Core.Path.{_≡_, refl, sym}
 use mathlib.Core.Bool.{Bool, true, false, cond}
 use Prim.Native.Nat.{ℕ, _-_, _≤_, _<_, _^_}
 use native.Mathlib.Omega.{arith}
@@ -45,16 +45,28 @@ unfolding signedOf
 id-none = refl
 
 pub id-not : (v : ℕ) → idCount ≤ v → (v ≡ 4_294_967_295 → ⊥) → v < 2 ^ 32 → cond (fits idField (signedOf v)) (number 0 (signedOf v)) bad ≡ bad
-id-not v l d m = by-sign (λ z. cond (fits idField z) (number 0 z) bad ≡ bad) v (λ q. rw (lt-leb v lastId (omega arith))) (λ q. rw (lt-leb (4_294_967_295 - v) 0 (omega arith)))
+id-not v l d m =
+    by-sign (λ z. cond (fits idField z) (number 0 z) bad ≡ bad) v
+    (λ q. rw (lt-leb v lastId (omega arith))) (λ q. rw (lt-leb (4_294_967_295 - v) 0 (omega arith)))
 
 -- ---- a number that is not an id, by its largest value
 
--- What a field asks, with a largest value, of a value whose bits are v.
+-- What number i of a slot asks, with a largest value, of a value whose bits are v.
+abbrev pub judgedAt : ℕ → ℕ → ℕ → Act
+judgedAt i top v = cond (betweenZ (pos 0) (pos top) (signedOf v)) (number i (signedOf v)) bad
+
+pub number-good : (i top v : ℕ) → top < 2_147_483_648 → v ≤ top → judgedAt i top v ≡ number i (pos v)
+number-good i top v s l = rw (small-signed v (omega arith), le-leb 0 v (omega arith), le-leb v top l)
+
+pub number-bad : (i top v : ℕ) → top < v → judgedAt i top v ≡ bad
+number-bad i top v l = rw (fits-not top v l)
+
+-- The same of the first field, where fields are gone through one by one.
 abbrev pub judged : ℕ → ℕ → Act
-judged top v = cond (betweenZ (pos 0) (pos top) (signedOf v)) (number 0 (signedOf v)) bad
+judged top v = judgedAt 0 top v
 
 pub number-in : (top v : ℕ) → top < 2_147_483_648 → v ≤ top → number 0 (pos v) ≡ judged top v
-number-in top v s l = rw (small-signed v (omega arith), le-leb 0 v (omega arith), le-leb v top l)
+number-in top v s l = sym (number-good 0 top v s l)
 
 pub number-out : (top v : ℕ) → top < v → bad ≡ judged top v
-number-out top v l = rw (fits-not top v l)
+number-out top v l = sym (number-bad 0 top v l)

@@ -1,4 +1,4 @@
--- The ends of the reader's loop, as the code answers them: a turn in which track is lost, and the last record. Cited by the proof of `follow` and by the reader. Assumes nothing.
+-- The ends of the reader's loop, as the code answers them: where track is lost, and the last record. Cited by `follow` and the reader. Assumes nothing.
 use mathlib.Core.Path.{_≡_, refl, sym, ap, _∙_}
 use mathlib.Core.List.{List}
 use Prim.Native.Nat.{ℕ, _+_, _-_, _*_, _≤_}
@@ -17,8 +17,9 @@ use Rattle.panel.proofs.Back.{table-back}
 use Rattle.common.specs.declared.Mode.the-variants.{Following}
 use Rattle.common.specs.declared.SlotNumber.{SlotNumber}
 use Rattle.common.specs.declared.Counts.{Counts}
-use Rattle.common.specs.Seen.{countsFrom}
+use Rattle.common.specs.Seen.{countsOf, countsFrom}
 use Rattle.common.specs.Runs.{onward, counted}
+use Rattle.common.proofs.Back.{counts-seen}
 use Rattle.common.proofs.Runs.{onward-end, lost-onward}
 use Rattle.common.proofs.Turns.{Place, before, so, from, Goes}
 use Rattle.follow.specs.Seen.{readerOf}
@@ -35,6 +36,11 @@ lost-ended p sh c m a es l z =
     let p4 : a .bad + 0 ≡ a .bad = omega arith in
     let p5 : a .ignored + length es ≡ length es = omega arith in
     sym (ap endedFrom (lost-onward p (tableOf sh) c m a es l) ∙ rw (table-back sh, p1, p2, p3, p4, p5, earlier-none (a .first)))
+
+-- Its counts are known by the contract of what makes them.
+pub counts-told : (sh : List Slot) (c : SlotNumber) (m : R.Mode) (a : Counts) (x : R.Counts) (es : List E.Event) (r : Ended)
+    → r ≡ lostAt sh c m (countsOf a) es → a ≡ countsFrom x → r ≡ lostAt sh c m x es
+counts-told sh c m a x es r q e = q ∙ ap (λ y. lostAt sh c m y es) (ap countsOf e ∙ counts-seen x)
 
 -- The run's end, where track is lost in this turn.
 pub loses : (w : Place slotOf blank) (m : R.Mode) (bad : ℕ) → Lost m

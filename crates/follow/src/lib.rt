@@ -1,21 +1,22 @@
-// A run over records: the loop of a reader that follows, which changes its tables in place, and how a run ends once track is lost. The reader's calls stand on it.
+// A run over records: the loop of a reader that follows, which changes its tables in place, and the end once track is lost. The reader's calls stand on it.
 ghost use mathlib.Core.Path.{_≡_};
 ghost use mathlib.Core.Bool.{true};
-ghost use Prim.Native.Nat.{_<_, _≤_, _+_, _-_, _*_, _/_, _^_};
+ghost use Prim.Native.Nat.{_<_, _≤_, _+_, _/_};
 ghost use lib.ListN.{length};
 ghost use Rattle.model.specs.Panel.{base, setupGood};
-ghost use Rattle.model.specs.Records.{eventsFrom, eventsOf};
-ghost use Rattle.model.specs.Reader.{following, nothing};
+ghost use Rattle.model.specs.Records.{eventsOf};
+ghost use Rattle.model.specs.Reader.{following, dropped, nothing};
 ghost use Rattle.common.specs.Seen.{modeOf, skippedOf, countsOf, countsFrom};
 ghost use Rattle.panel.specs.Seen.{setupOf, panelSeen, unusedAll, sameFrom};
 ghost use Rattle.follow.specs.Seen.{readerOf};
-ghost use Rattle.common.specs.Runs.{onward, counted as countsSoFar, FirstWithin, firstAt, firstAfter};
-ghost use Rattle.follow.specs.Runs.{endedFrom, lostAt};
+ghost use Rattle.common.specs.Runs.{onward, FirstWithin, firstAt, firstAfter};
+ghost use Rattle.follow.specs.Runs.{endedFrom, lostAt, leftFrom, soFar, Skips};
 use acts::Act;
 use common::Counts;
 use common::FirstSkipped;
 use common::Mode;
 use common::SlotNumber;
+use common::TrackingId;
 use panel::RECORDS;
 use panel::Setup;
 use panel::Slot;
@@ -38,7 +39,7 @@ pub fn lost(
     before: Counts,
 ) -> Ended
     requires { ⌜ k ≤ length (now bytes) / 8 ⌝ }
-    ensures { λ r. ⌜ r ≡ lostAt shown current (modeOf m) (countsOf before) (eventsFrom (length (now (bytes .entry)) / 8 - k) (now (bytes .entry)) (8 * k)) ⌝ }
+    ensures { λ r. ⌜ r ≡ lostAt shown current (modeOf m) (countsOf before) (leftFrom (now (bytes .entry)) k) ⌝ }
 {
     let count = bytes.len() / 8;
     let mode = common::last_mode(m, bytes, k);
@@ -71,7 +72,8 @@ fn first_of(bytes: &[u8], skipped: usize, first: usize) -> FirstSkipped
     FirstSkipped::Event(e.kind, e.code)
 }
 
-// The number of the first record skipped, where record k is skipped too. A number and no event: what an event has would be kept in memory beside the loop's other numbers.
+// The number of the first record skipped, where record k is skipped too. A number and no event: what an event has would be kept in memory beside the
+// loop's other numbers.
 fn earliest(skipped: usize, first: usize, k: usize) -> usize
     ensures { λ r. ⌜ r ≡ firstAfter skipped first k ⌝ }
 {
@@ -81,23 +83,49 @@ fn earliest(skipped: usize, first: usize, k: usize) -> usize
     k
 }
 
-fn counted(bytes: &[u8], shown: usize, types: usize, codes: usize, bad: usize, at: usize) -> Counts
-    requires { ⌜ (types + codes < 2 ^ 64) × FirstWithin (types + codes) at (length (now bytes)) ⌝ }
-    ensures { λ r. ⌜ r ≡ countsFrom (countsSoFar shown types codes bad (firstAt (now (bytes .entry)) (types + codes) at)) ⌝ }
+// What a run that follows has counted; `first` is the number of the first record skipped.
+struct SoFar {
+    frames: usize,
+    types: usize,
+    codes: usize,
+    first: usize,
+}
+
+fn counted(bytes: &[u8], so: SoFar, bad: usize) -> Counts
+    requires { ⌜ Skips so (length (now bytes)) ⌝ }
+    ensures { λ r. ⌜ r ≡ countsFrom (soFar (now (bytes .entry)) so bad) ⌝ }
 {
-    let first = first_of(bytes, types + codes, at);
+    let first = first_of(bytes, so.types + so.codes, so.first);
     Counts {
-        shown,
-        types,
-        codes,
+        shown: so.frames,
+        types: so.types,
+        codes: so.codes,
         bad,
         ignored: 0,
         first,
     }
 }
 
-// A run that begins following. The tables are changed in place: a table is copied at a report or a loss, never for another event.
+// The end of a run that drops at record k, with so many bad ones: 1 for a bad value, 0 for a loss.
+fn drops(
+    shown: [Slot; RECORDS],
+    current: usize,
+    bytes: &[u8],
+    k: usize,
+    so: SoFar,
+    bad: usize,
+) -> Ended
+    requires { ⌜ (k < length (now bytes) / 8) × Skips so (length (now bytes)) ⌝ }
+    ensures { λ r. ⌜ r ≡ lostAt shown (record { 0 = current }) dropped (soFar (now (bytes .entry)) so bad) (leftFrom (now (bytes .entry)) (k + 1)) ⌝ }
+{
+    let c = counted(bytes, so, bad);
+    lost(shown, SlotNumber(current), Mode::Dropped, bytes, k + 1, c)
+}
+
+// A run that begins following. The tables are changed in place: what an event changes is one number.
 // Most reports come without a new id, so the pending ids are compared only if one was written since they were last found to differ.
+// Most come after one slot or two, so a report copies two slots: `opened` slots were selected since the last report, at which `from` was current, and with
+// fewer than two of them only `from` and the current slot can differ from what is shown. A run may begin with anything pending, so `opened` begins at 2.
 pub fn follow(
     setup: Setup,
     shown0: [Slot; RECORDS],
@@ -113,54 +141,73 @@ pub fn follow(
     let mut pending = pending0;
     let mut written = true;
     let mut current = current0.0;
-    let mut frames: usize = 0;
-    let mut types: usize = 0;
-    let mut codes: usize = 0;
-    let mut first: usize = 0;
+    let mut so = SoFar {
+        frames: 0,
+        types: 0,
+        codes: 0,
+        first: 0,
+    };
+    let mut from = current;
+    let mut opened: usize = 2;
     let mut k: usize = 0;
     while k < count {
-        let e = records::record_at(bytes, 8 * k);
-        let a = acts::act_of(setup, e);
-        match a {
+        let act = acts::act_of(records::word_at(bytes, 8 * k));
+        let value = records::word_at(bytes, 8 * k + 4);
+        match act {
             Act::UnknownType => {
-                first = earliest(types + codes, first, k);
-                types += 1;
+                let f = earliest(so.types + so.codes, so.first, k);
+                so.first = f;
+                so.types += 1;
                 k += 1;
             }
             Act::UnknownCode => {
-                first = earliest(types + codes, first, k);
-                codes += 1;
+                let f = earliest(so.types + so.codes, so.first, k);
+                so.first = f;
+                so.codes += 1;
                 k += 1;
-            }
-            Act::Bad => {
-                let c = counted(bytes, frames, types, codes, 1, first);
-                return lost(shown, SlotNumber(current), Mode::Dropped, bytes, k + 1, c);
             }
             Act::Report => {
                 if written {
                     if !panel::ids_differ(setup.n, pending) {
-                        let c = counted(bytes, frames, types, codes, 1, first);
+                        let c = counted(bytes, so, 1);
                         return lost(shown, SlotNumber(current), Mode::Stale, bytes, k + 1, c);
                     }
                     written = false;
                 }
-                shown = pending;
-                frames += 1;
+                if opened < 2 {
+                    let last = pending[from];
+                    shown[from] = last;
+                    let now = pending[current];
+                    shown[current] = now;
+                } else {
+                    shown = pending;
+                }
+                from = current;
+                opened = 0;
+                so.frames += 1;
                 k += 1;
             }
             Act::Loss => {
-                let c = counted(bytes, frames, types, codes, 0, first);
-                return lost(shown, SlotNumber(current), Mode::Dropped, bytes, k + 1, c);
+                return drops(shown, current, bytes, k, so, 0);
             }
-            Act::Select(s) => {
-                current = s.0;
+            Act::Select => {
+                let slot = value as usize;
+                if setup.n <= slot {
+                    return drops(shown, current, bytes, k, so, 1);
+                }
+                current = slot;
+                opened += 1;
                 k += 1;
             }
-            Act::Id(v) => {
+            Act::Id => {
+                let v = records::signed_of(value);
+                if !common::id_ok(v) {
+                    return drops(shown, current, bytes, k, so, 1);
+                }
                 let old = pending[current];
                 written = true;
                 pending[current] = Slot {
-                    id: v,
+                    id: TrackingId(v),
                     x: old.x,
                     y: old.y,
                     pressure: old.pressure,
@@ -169,24 +216,39 @@ pub fn follow(
                 };
                 k += 1;
             }
-            Act::X(v) => {
-                pending[current].x = v;
+            Act::X => {
+                if setup.x < value {
+                    return drops(shown, current, bytes, k, so, 1);
+                }
+                pending[current].x = value;
                 k += 1;
             }
-            Act::Y(v) => {
-                pending[current].y = v;
+            Act::Y => {
+                if setup.y < value {
+                    return drops(shown, current, bytes, k, so, 1);
+                }
+                pending[current].y = value;
                 k += 1;
             }
-            Act::Pressure(v) => {
-                pending[current].pressure = v;
+            Act::Pressure => {
+                if setup.pressure < value {
+                    return drops(shown, current, bytes, k, so, 1);
+                }
+                pending[current].pressure = value;
                 k += 1;
             }
-            Act::Major(v) => {
-                pending[current].major = v;
+            Act::Major => {
+                if setup.major < value {
+                    return drops(shown, current, bytes, k, so, 1);
+                }
+                pending[current].major = value;
                 k += 1;
             }
-            Act::Minor(v) => {
-                pending[current].minor = v;
+            Act::Minor => {
+                if setup.minor < value {
+                    return drops(shown, current, bytes, k, so, 1);
+                }
+                pending[current].minor = value;
                 k += 1;
             }
         }
@@ -196,6 +258,6 @@ pub fn follow(
         pending,
         current: SlotNumber(current),
         mode: Mode::Following,
-        counts: counted(bytes, frames, types, codes, 0, first),
+        counts: counted(bytes, so, 0),
     }
 }

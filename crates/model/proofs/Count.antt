@@ -1,13 +1,14 @@
 -- Demand 3, first half: how many events a frame has. Least has the second half. Assumes nothing, of no table either.
-use mathlib.Core.Path.{_≡_, refl, ap, _∙_}
+use mathlib.Core.Path.{_≡_, refl, ap, ap₂, _∙_}
 use mathlib.Core.Bool.{Bool, true, false, cond, _&&_}
 use mathlib.Core.List.{List, [], _∷_}
-use Prim.Native.Nat.{ℕ, zero, suc, _+_, _≤_}
+use Prim.Native.Nat.{ℕ, zero, suc, _+_, _≤_, _<_}
 use native.Mathlib.Omega.{arith}
-use lib.Dec.{eqb, eqb·suc-zero}
-use lib.ListN.{length, getD, length-append, length-map}
-use borrow.Author.Tests.{eqb-true, eqb-false}
-use Rattle.model.proofs.Bools.{is-true, eqZ-refl}
+use lib.Dec.{T, eqb, eqb·suc-zero}
+use lib.ListN.{length, getD, set, length-append, length-map}
+use borrow.Author.Tests.{ne-eqb, eqb-true, eqb-false}
+use Rattle.model.proofs.Bools.{is-true, eqZ-refl, eqZ→eq}
+use Rattle.model.proofs.Tables.{Like}
 use Rattle.model.specs.Numbers.{eqZ}
 use Rattle.model.specs.Panel.{Panel, fieldCodes}
 use Rattle.model.specs.Table.{Slot, Table}
@@ -76,6 +77,37 @@ changedNumbers-self (s ∷ t) = omega (arith, changedIn-self s, changedNumbers-s
 pub sameSlot-self : (s : Slot) → sameSlot s s ≡ true
 sameSlot-self [] = refl
 sameSlot-self (v ∷ s) = rw (is-true (eqZ v v) (eqZ-refl v)) (sameSlot-self s)
+
+-- ---- no number of a slot changed
+
+-- A slot is the same if no number of it changed.
+pub same-count : (o v : Slot) → eqb (changedIn o v) 0 ≡ sameSlot o v
+same-count [] v = refl
+same-count (x ∷ o) [] = refl
+same-count (x ∷ o) (y ∷ v) =
+    elim (eqZ x y) as (λ b. eqb (oneUnless b + changedIn o v) 0 ≡ (b && sameSlot o v)) [
+      | true ↦ let z : 0 + changedIn o v ≡ changedIn o v = omega arith in ap (λ n. eqb n 0) z ∙ same-count o v
+      | false ↦ ne-eqb (1 + changedIn o v) 0 (λ e. omega arith)
+    ]
+
+-- Then the two hold the same numbers, if they hold as many.
+pub none-changed : (o v : Slot) → Like o v → changedIn o v ≡ 0 → o ≡ v
+none-changed [] [] l e = refl
+none-changed [] (y ∷ v) l e = absurd l
+none-changed (x ∷ o) [] l e = absurd l
+none-changed (x ∷ o) (y ∷ v) l e =
+    (elim (eqZ x y) as (λ b. (T b → x ≡ y) → oneUnless b + changedIn o v ≡ 0 → x ∷ o ≡ y ∷ v) [
+      | true ↦ λ q h. ap₂ {C = Slot} (λ z r. z ∷ r) (q tt) (none-changed o v l (omega arith))
+      | false ↦ λ q h. absurd (omega arith)
+    ]) (eqZ→eq x y) e
+
+-- A slot that was as in the old table is set: its changed numbers are added.
+pub numbers-set : (old t : Table) (s : ℕ) (w : Slot) → s < length old → s < length t → getD t s [] ≡ getD old s []
+    → changedNumbers old (set t s w) ≡ changedNumbers old t + changedIn (getD old s []) w
+numbers-set [] t s w h g e = absurd (omega arith)
+numbers-set (o ∷ old) [] s w h g e = absurd (omega arith)
+numbers-set (o ∷ old) (v ∷ t) zero w h g e = omega (arith, ap (changedIn o) e ∙ changedIn-self o)
+numbers-set (o ∷ old) (v ∷ t) (suc s) w h g e = omega (arith, numbers-set old t s w (omega arith) (omega arith) e)
 
 -- ---- slot c, and the others: what the slot itself changes, and what is still to change once it is done
 

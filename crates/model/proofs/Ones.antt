@@ -4,10 +4,10 @@ use mathlib.Core.Bool.{true, false, cond}
 use mathlib.Core.List.{List, [], _∷_}
 use Prim.Native.Nat.{ℕ, zero, suc, _+_, _*_, _/_, _%_, _-_, _^_, _≤_, _<_}
 use native.Mathlib.Omega.{arith}
-use native.Mathlib.Nat.{suc-mul, pow-suc}
+use native.Mathlib.Nat.{suc-mul, pow-suc, mul-assoc, mul-comm}
 use lib.Dec.{T, eqb}
 use lib.Count.{ones, ones-step}
-use lib.ListN.{length, getD}
+use lib.ListN.{length, getD, set}
 use Rattle.model.proofs.Bools.{is-true, both-right, eqZ-refl}
 use Rattle.model.proofs.Tables.{same-past, place, good-records}
 use Rattle.model.proofs.Count.{oneUnless-le, same-none, changedIn-self, sameSlot-self, event-count}
@@ -51,14 +51,28 @@ mask-below [] new = omega arith
 mask-below (o ∷ old) [] = omega (arith, pow-suc 2 (length old), mask-below old [])
 mask-below (o ∷ old) (v ∷ new) = omega (arith, pow-suc 2 (length old), oneUnless-le (sameSlot o v), mask-below old new)
 
--- ---- the limit
-
 -- A table that stays has no changed slot.
 pub mask-self : (t : Table) → changedMask t t ≡ 0
 mask-self [] = refl
 mask-self (s ∷ t) =
     let b : oneUnless (sameSlot s s) ≡ 0 = ap oneUnless (sameSlot-self s) in
     omega (arith, mask-self t)
+
+twice : (b s : ℕ) → b * 2 ^ suc s ≡ 2 * (b * 2 ^ s)
+twice b s = ap (λ n. b * n) (pow-suc 2 s) ∙ sym (mul-assoc b (2 ^ s) 2) ∙ mul-comm (b * 2 ^ s) 2
+
+-- A slot that was as in the old table is set: its bit is added.
+pub mask-set : (old t : Table) (s : ℕ) (w : Slot) → s < length old → s < length t → getD t s [] ≡ getD old s []
+    → changedMask old (set t s w) ≡ changedMask old t + oneUnless (sameSlot (getD old s []) w) * 2 ^ s
+mask-set [] t s w h g e = absurd (omega arith)
+mask-set (o ∷ old) [] s w h g e = absurd (omega arith)
+mask-set (o ∷ old) (v ∷ t) zero w h g e =
+    let z : oneUnless (sameSlot o v) ≡ 0 = ap (λ x. oneUnless (sameSlot o x)) e ∙ ap oneUnless (sameSlot-self o) in
+    omega arith
+mask-set (o ∷ old) (v ∷ t) (suc s) w h g e =
+    omega (arith, twice (oneUnless (sameSlot (getD old s []) w)) s, mask-set old t s w (omega arith) (omega arith) e)
+
+-- ---- the limit
 
 in-limit : (fs : List Field) (old new : Slot) → T (goodSlot fs old) → changedIn old new ≤ length fs
 in-limit fs [] new g = omega arith

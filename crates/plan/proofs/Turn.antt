@@ -1,5 +1,5 @@
 -- One turn of the plan: what a slot becomes, and the table and counter that are left to make.
--- Cited by the proofs here; `good-plain` and `rest-stays` by the writer. Assumes nothing.
+-- Cited by the proofs here; `good-plain` by the writer. Assumes nothing.
 use mathlib.Core.Path.{_≡_, refl, sym, ap, ap₂, _∙_}
 use mathlib.Core.Bool.{Bool, true, false, cond, _&&_, _||_}
 use mathlib.Core.List.{List, [], _∷_, _++_, append-assoc, map-append}
@@ -209,24 +209,3 @@ no-row taken k n frame t s h =
     let none : rowsFrom perSlot (n - s) frame (perSlot * s) ≡ [] = ap (λ m. rowsFrom perSlot m frame (perSlot * s)) z ∙ rows-none perSlot frame (perSlot * s) in
     let all = sym (map-append slotOf (take s t) (drop s t)) ∙ ap tableOf (take-append-drop s t) in
     ap (λ r. after front (planned taken k r (tableOf (drop s t)))) none ∙ ap (λ x. record { table = x; counter = k }) all
-
--- ---- the records without a row
-
-unrowed : (taken : List ℤ) (k : ℕ) (fr : List (List ℤ)) (t : Table) → drop (length fr) (planned taken k fr t .table) ≡ drop (length fr) t
-unrowed taken k [] t = refl
-unrowed taken k (g ∷ fr) [] = refl
-unrowed taken k (g ∷ fr) (s ∷ t) =
-    let f = fate (kindOf g) (idOf s) in
-    let j = freeId taken k in
-    unrowed (takenAfter f j taken) (counterAfter f j k) fr t
-
-rest-seen : (t : List S.Slot) (n : ℕ) → tableOf (drop n t) ≡ drop n (tableOf t)
-rest-seen t zero = refl
-rest-seen [] (suc n) = refl
-rest-seen (s ∷ t) (suc n) = rest-seen t n
-
--- They stay.
-pub rest-stays : (old new : List S.Slot) (k : ℕ) (fr : List (List ℤ)) → tableOf new ≡ newTable k fr (tableOf old) → sameFrom (length fr) old new
-rest-stays old new k fr e =
-    let n = length fr in
-    rest-seen old n ∙ sym (rest-seen new n ∙ ap (drop n) e ∙ unrowed (ids (tableOf old)) k fr (tableOf old))

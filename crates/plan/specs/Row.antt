@@ -14,6 +14,7 @@ use Rattle.model.specs.Frame.{kindOf, Fate, none, goesOn, begins}
 use Rattle.model.specs.Frame as F
 use Rattle.panel.specs.declared.Slot.{Slot}
 use Rattle.panel.specs.Seen.{tableOf}
+use Rattle.tally.specs.Told.{Tells}
 use Rattle.plan.specs.declared.Planned.{Planned}
 
 -- A contact begins.
@@ -59,6 +60,11 @@ plainRows (g ∷ fr) = plainRow g && plainRows fr
 -- A planned table and counter, as the model's.
 abbrev pub plannedOf : Planned → F.Planned
 plannedOf r = record { table = tableOf (r .table); counter = r .counter }
+
+-- An answer r holds the plan p of n rows, and tells what it changes in the old table.
+pub record Plans (n : ℕ) (old : List Slot) (p : F.Planned) (r : Planned) : Type 0 where
+  pub plan : plannedOf r ≡ p
+  pub tells : Tells n old (r .table) (r .changes)
 
 -- The rows of a frame from slot s on are left to plan.
 pub record RowsLeft (n s counter : ℕ) (frame : List ℤ) : Type 0 where

@@ -1,4 +1,4 @@
-// The table and the counter that a frame makes: which id a beginning contact takes, and every slot's new numbers. The writer stands on it.
+// The table and the counter that a frame makes, and what it changes: which id a beginning contact takes, and every slot's new numbers. The writer stands on it.
 ghost use mathlib.Core.Path.{_≡_};
 ghost use mathlib.Core.Bool.{true};
 ghost use Prim.Native.Nat.{_*_, _<_, _≤_};
@@ -9,12 +9,15 @@ ghost use Rattle.model.specs.Numbers.{eqZ};
 ghost use Rattle.model.specs.Table.{ids, unheld};
 ghost use Rattle.model.specs.Frame.{fate, freeId, next, rowsFrom, framed};
 ghost use Rattle.panel.specs.Seen.{rowOf, tableOf, unusedAll, sameFrom};
-ghost use Rattle.plan.specs.Row.{begun, contactOf, lifted, stayed, plainRows, plannedOf, RowsLeft, planFrom};
+ghost use Rattle.tally.specs.Told.{Tells};
+ghost use Rattle.plan.specs.Row.{begun, contactOf, lifted, stayed, plainRows, Plans, RowsLeft, planFrom};
+use common::SlotNumber;
 use common::TrackingId;
 use panel::PER_SLOT;
 use panel::RECORDS;
 use panel::Row;
 use panel::Slot;
+use tally::Changed;
 
 // The most ids that are taken in a frame: every old one, and one given to each slot.
 const TAKEN: usize = 2 * RECORDS;
@@ -140,6 +143,13 @@ fn stays(was: Slot, r: Row) -> Slot
 pub struct Planned {
     pub table: [Slot; RECORDS],
     pub counter: u32,
+    pub changes: Changed,
+}
+
+// How far a plan has come: the slot that is next, and what changed before it.
+struct Reached {
+    slot: usize,
+    changes: Changed,
 }
 
 // What is left to plan from a slot on in which a contact begins: the first of `made` are made, and the ids of the old table are taken. An ending or replaced contact's id stays taken to the end of the frame.
@@ -149,16 +159,17 @@ fn give_ids(
     made: [Slot; RECORDS],
     counter: u32,
     frame: &[i32],
-    from: usize,
+    from: Reached,
 ) -> Planned
-    requires { ⌜ RowsLeft n from counter (now frame) × sameFrom n old unusedAll ⌝ }
-    ensures { λ r. ⌜ plannedOf r ≡ planFrom (ids (tableOf old)) counter n (now (frame .entry)) made from ⌝ }
+    requires { ⌜ RowsLeft n (from .slot) counter (now frame) × sameFrom n old unusedAll × Tells (from .slot) old made (from .changes) ⌝ }
+    ensures { λ r. ⌜ Plans n old (planFrom (ids (tableOf old)) counter n (now (frame .entry)) made (from .slot)) r ⌝ }
 {
     let mut taken = ids_of(n, old);
     let mut m = n;
     let mut t = made;
     let mut k = counter;
-    let mut s = from;
+    let mut s = from.slot;
+    let mut changes = from.changes;
     while s < n {
         let r = panel::row_at(frame, PER_SLOT * s);
         let was = t[s];
@@ -168,6 +179,7 @@ fn give_ids(
             let v = id_of(j);
             let w = contact(v, r);
             t[s] = w;
+            changes = tally::with_slot(changes, SlotNumber(s), tally::differ(was, w));
             let q = v.0;
             taken[m] = q;
             m += 1;
@@ -176,21 +188,25 @@ fn give_ids(
         } else {
             let w = stays(was, r);
             t[s] = w;
+            changes = tally::with_slot(changes, SlotNumber(s), tally::differ(was, w));
             s += 1;
         }
     }
     Planned {
         table: t,
         counter: k,
+        changes,
     }
 }
 
-// The table and the counter after n good rows, of a table that was never used past n slots. Most frames begin no contact: the taken ids are gathered at the first that does.
+// The table and the counter after n good rows, of a table that was never used past n slots, and what changed. Most frames begin no contact: the taken ids are gathered at the first that does.
+// A slot that stays as it is, as most do, is passed over.
 pub fn plan_frame(n: usize, old: [Slot; RECORDS], counter: u32, frame: &[i32]) -> Planned
     requires { ⌜ (n ≤ records) × (counter < idCount) × (length (now frame) ≡ perSlot * n) × (plainRows (rowsFrom perSlot n (now frame) 0) ≡ true) × sameFrom n old unusedAll ⌝ }
-    ensures { λ r. ⌜ plannedOf r ≡ framed counter (rowsFrom perSlot n (now (frame .entry)) 0) (tableOf old) ⌝ }
+    ensures { λ r. ⌜ Plans n old (framed counter (rowsFrom perSlot n (now (frame .entry)) 0) (tableOf old)) r ⌝ }
 {
     let mut t = old;
+    let mut changes = Changed::none();
     let mut s: usize = 0;
     while s < n {
         let r = panel::row_at(frame, PER_SLOT * s);
@@ -198,16 +214,28 @@ pub fn plan_frame(n: usize, old: [Slot; RECORDS], counter: u32, frame: &[i32]) -
         if common::same(r.first, 0) {
             let w = lift(was);
             t[s] = w;
+            changes = tally::with_slot(changes, SlotNumber(s), tally::differ(was, w));
             s += 1;
         } else {
             let id = was.id;
             if begins(r.first, id) {
-                return give_ids(n, old, t, counter, frame, s);
+                let from = Reached { slot: s, changes };
+                return give_ids(n, old, t, counter, frame, from);
             }
             let w = contact(id, r);
-            t[s] = w;
-            s += 1;
+            let d = tally::differ(was, w);
+            if d == 0 {
+                s += 1;
+            } else {
+                t[s] = w;
+                changes = tally::with_slot(changes, SlotNumber(s), d);
+                s += 1;
+            }
         }
     }
-    Planned { table: t, counter }
+    Planned {
+        table: t,
+        counter,
+        changes,
+    }
 }

@@ -25,28 +25,29 @@ use panel::RECORDS;
 use panel::Setup;
 use panel::Slot;
 
+// Tables come first, here and in the answers: one that stands beside a struct's padding is copied once more by the compiler at each call.
 pub struct ReaderState {
-    pub setup: Setup,
     pub shown: [Slot; RECORDS],
     pub pending: [Slot; RECORDS],
+    pub setup: Setup,
     pub current: SlotNumber,
     pub mode: Mode,
 }
 
 pub struct FreshAnswer {
-    pub verdict: Verdict,
     pub state: ReaderState,
+    pub verdict: Verdict,
 }
 
 pub struct RunAnswer {
-    pub verdict: Verdict,
     pub state: ReaderState,
     pub counts: Counts,
+    pub verdict: Verdict,
 }
 
 pub struct LoadAnswer {
-    pub verdict: Verdict,
     pub state: ReaderState,
+    pub verdict: Verdict,
 }
 
 pub enum SlotAnswer {

@@ -10,12 +10,16 @@ use Rattle.records.specs.declared.Event.{Event}
 use Rattle.records.specs.Seen.{eventOf}
 use Rattle.records.proofs.join32.Reads as join32
 use Rattle.records.proofs.record_at.Reads as record-at
+use Rattle.records.proofs.word_at.Reads as word-at
 use Rattle.records.proofs.bits_of.Reads as bits-of
 use Rattle.records.proofs.signed_of.Reads as signed-of
 use Rattle.records.proofs.put.Reads as put
 
 pub join32-one : OneAnswer join32.Learnt
 join32-one κs a r q s t e g = e ∙ sym g
+
+pub word-at-one : OneAnswer word-at.Learnt
+word-at-one κs a r q s t e g = e ∙ sym g
 
 pub bits-of-one : OneAnswer bits-of.Learnt
 bits-of-one κs a r q s t e g = e ∙ sym g

@@ -3,7 +3,7 @@ ghost use mathlib.Core.Path.{_≡_};
 ghost use Prim.Native.Nat.{_+_, _≤_};
 ghost use lib.ListN.{length};
 ghost use Rattle.model.specs.Records.{bitsOf, signedOf, recordBytes, eventAt, join16 as joined16, join32 as joined32};
-ghost use Rattle.records.specs.Seen.{eventOf, over};
+ghost use Rattle.records.specs.Seen.{eventOf, wordAt, over};
 
 pub const LENGTH: usize = 8;
 
@@ -59,6 +59,14 @@ pub fn record_at(s: &[u8], at: usize) -> Event
     let code = join16(s[at + 2], s[at + 3]);
     let value = join32(s[at + 4], s[at + 5], s[at + 6], s[at + 7]);
     Event { kind, code, value }
+}
+
+// Four bytes of a record as one number: at its start the head, which is its type and 65,536 times its code, and after it the bits of its value.
+pub fn word_at(s: &[u8], at: usize) -> u32
+    requires { ⌜ at + 4 ≤ length (now s) ⌝ }
+    ensures { λ r. ⌜ r ≡ wordAt (now (s .entry)) at ⌝ }
+{
+    join32(s[at], s[at + 1], s[at + 2], s[at + 3])
 }
 
 pub fn bits_of(z: i32) -> u32

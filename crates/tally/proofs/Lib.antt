@@ -1,6 +1,6 @@
 -- The laws behind the tally.
 --
--- Mask: a slot is the same if no number of it changed; what changed from slot s on is slot s's change and what changed after it; what stays has not changed.
--- Unique: the contract of `count_changes` leaves one answer.
-pub mod Mask
+-- Told: nothing is told of a table that stays; a slot that is set is told, and one that stays need not be; the others and the events by what is told.
+-- Unique: each contract of a function that other crates call leaves one answer.
+pub mod Told
 pub mod Unique

@@ -1,2 +1,2 @@
--- What the tally tells of two tables.
+-- What is told of the slots that changed.
 pub mod Told

@@ -1,4 +1,4 @@
--- The answer of a write and its buffer by the four tests, and the code's answers as the model's. Cited by the proofs of `write` and `accept`. Assumes nothing.
+-- The answer of a write and its buffer by the four tests, and the code's answers as the model's. Cited by the proof of `write` and by Accepted. Assumes nothing.
 use mathlib.Core.Path.{_≡_, sym, ap, _∙_}
 use mathlib.Core.Bool.{Bool, cond}
 use mathlib.Core.List.{List}

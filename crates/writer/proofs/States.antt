@@ -1,4 +1,4 @@
--- When a writer's state is well formed, test by test, and what the other functions know of one that is. Cited by the proofs of `state_ok`, `accept` and `write`. Assumes nothing.
+-- When a writer's state is well formed, test by test, and what the other functions know of one that is. Cited by the proofs of `state_ok` and `write`. Assumes nothing.
 use mathlib.Core.Path.{_≡_, _∙_}
 use mathlib.Core.Bool.{Bool, true, _&&_}
 use Prim.Native.Nat.{_<_, _≤_}

@@ -1,18 +1,10 @@
 -- The writer's state and answers as the model's, and back. The promises of `fresh` and `write` go through it. Assumes nothing.
-use mathlib.Core.Path.{_≡_}
-use mathlib.Core.Bool.{true}
-use mathlib.Core.List.{List}
-use Prim.Native.Nat.{ℕ, _*_}
-use lib.IntN.{ℤ}
-use lib.ListN.{length}
-use Rattle.model.specs.Panel.{base, perSlot}
-use Rattle.model.specs.Frame.{valuesGood}
+use Prim.Native.Nat.{ℕ}
 use Rattle.model.specs.States as M
-use Rattle.model.specs.States.{writerGood}
 use Rattle.model.specs.Calls as C
 use Rattle.common.specs.declared.Verdict.{Verdict}
 use Rattle.common.specs.declared.Verdict.the-variants.{Accepted}
-use Rattle.panel.specs.Seen.{tableOf, tableFrom, setupOf, setupFrom, panelSeen}
+use Rattle.panel.specs.Seen.{tableOf, tableFrom, setupOf, setupFrom}
 use Rattle.common.specs.Seen.{verdictFrom}
 use Rattle.writer.specs.declared.WriterState.{WriterState}
 use Rattle.writer.specs.declared.FreshWriter.{FreshWriter}
@@ -24,26 +16,20 @@ seen s = record { setup = setupOf (s .setup); writer = record { table = tableOf 
 
 -- The state of such a record; what is seen of a state and held again is the state (proofs/Back).
 abbrev pub held : M.WriterState → WriterState
-held s = record { setup = setupFrom (s .setup); table = tableFrom (s .writer .table); current = record { 0 = s .writer .current }; counter = s .writer .counter }
+held s = record { table = tableFrom (s .writer .table); setup = setupFrom (s .setup); current = record { 0 = s .writer .current }; counter = s .writer .counter }
 
 -- The answer of a fresh writer.
 abbrev pub freshFrom : C.FreshWriter → FreshWriter
-freshFrom a = record { verdict = verdictFrom (a .verdict); state = held (a .state) }
+freshFrom a = record { state = held (a .state); verdict = verdictFrom (a .verdict) }
 
 -- The answer of a write.
 abbrev pub writtenFrom : C.Written → Written
-writtenFrom a = record { verdict = verdictFrom (a .verdict); state = held (a .state); count = a .count; changed = a .changed; need = a .need }
-
--- A good frame of a good state: all tests but that of the room have passed.
-pub record GoodFrame (s : WriterState) (frame : List ℤ) : Type 0 where
-  pub state : writerGood base (seen s) ≡ true
-  pub size : length frame ≡ perSlot * s .setup .n
-  pub values : valuesGood (panelSeen (s .setup)) frame ≡ true
+writtenFrom a = record { state = held (a .state); count = a .count; need = a .need; changed = a .changed; verdict = verdictFrom (a .verdict) }
 
 -- A refused frame's answer.
 abbrev pub notWrittenBy : Verdict → WriterState → ℕ → Written
-notWrittenBy v s need = record { verdict = v; state = s; count = 0; changed = 0; need = need }
+notWrittenBy v s need = record { state = s; count = 0; need = need; changed = 0; verdict = v }
 
 -- An accepted frame's answer.
 abbrev pub writtenBy : WriterState → ℕ → ℕ → Written
-writtenBy s count changed = record { verdict = Accepted; state = s; count = count; changed = changed; need = 0 }
+writtenBy s count changed = record { state = s; count = count; need = 0; changed = changed; verdict = Accepted }

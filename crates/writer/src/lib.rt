@@ -5,7 +5,7 @@ ghost use Rattle.model.specs.Panel.{base};
 ghost use Rattle.model.specs.States.{writerGood};
 ghost use Rattle.model.specs.Calls.{freshWriterCall, writeCall, writeBuffer};
 ghost use Rattle.panel.specs.Seen.{setupOf};
-ghost use Rattle.writer.specs.Seen.{seen, freshFrom, writtenFrom, GoodFrame, notWrittenBy, writtenBy};
+ghost use Rattle.writer.specs.Seen.{seen, freshFrom, writtenFrom, notWrittenBy, writtenBy};
 use common::SlotNumber;
 use common::TrackingId;
 use common::Verdict;
@@ -14,24 +14,25 @@ use panel::RECORDS;
 use panel::Setup;
 use panel::Slot;
 
+// In these structs the table comes first, and then the widest numbers: a table that stands beside a struct's padding is copied once more by the compiler at each call.
 pub struct WriterState {
-    pub setup: Setup,
     pub table: [Slot; RECORDS],
+    pub setup: Setup,
     pub current: SlotNumber,
     pub counter: u32,
 }
 
 pub struct FreshWriter {
-    pub verdict: Verdict,
     pub state: WriterState,
+    pub verdict: Verdict,
 }
 
 pub struct Written {
-    pub verdict: Verdict,
     pub state: WriterState,
     pub count: usize,
-    pub changed: u32,
     pub need: usize,
+    pub changed: u32,
+    pub verdict: Verdict,
 }
 
 impl WriterState {
@@ -49,8 +50,8 @@ impl WriterState {
         };
         if !panel::setup_ok(setup) {
             return FreshWriter {
-                verdict: Verdict::Setup,
                 state: WriterState {
+                    table: panel::zero_table(),
                     setup: Setup {
                         n: 0,
                         x: 0,
@@ -59,20 +60,20 @@ impl WriterState {
                         major: 0,
                         minor: 0,
                     },
-                    table: panel::zero_table(),
                     current: SlotNumber(0),
                     counter: 0,
                 },
+                verdict: Verdict::Setup,
             };
         }
         FreshWriter {
-            verdict: Verdict::Accepted,
             state: WriterState {
-                setup,
                 table: panel::unused_table(),
+                setup,
                 current: SlotNumber(0),
                 counter: 0,
             },
+            verdict: Verdict::Accepted,
         }
     }
 }
@@ -102,61 +103,36 @@ fn refused(verdict: Verdict, state: WriterState, need: usize) -> Written
     ensures { λ r. ⌜ r ≡ notWrittenBy verdict state need ⌝ }
 {
     Written {
-        verdict,
         state,
         count: 0,
-        changed: 0,
         need,
+        changed: 0,
+        verdict,
     }
 }
 
 fn taken(
-    setup: Setup,
     table: [Slot; RECORDS],
+    setup: Setup,
     current: SlotNumber,
     counter: u32,
     count: usize,
     changed: u32,
 ) -> Written
-    ensures { λ r. ⌜ r ≡ writtenBy (record { setup = setup; table = table; current = current; counter = counter }) count changed ⌝ }
+    ensures { λ r. ⌜ r ≡ writtenBy (record { table = table; setup = setup; current = current; counter = counter }) count changed ⌝ }
 {
     Written {
-        verdict: Verdict::Accepted,
         state: WriterState {
-            setup,
             table,
+            setup,
             current,
             counter,
         },
         count,
-        changed,
         need: 0,
+        changed,
+        verdict: Verdict::Accepted,
     }
-}
-
-// A good frame of a good state: its events, unless there is no room for them.
-fn accept(state: WriterState, frame: &[i32], buf: &mut [u8], at: usize) -> Written
-    requires { ⌜ GoodFrame state (now frame) ⌝ }
-    ensures { λ r. ⌜ (r ≡ writtenFrom (writeCall base (seen state) (now (frame .entry)) at (length (now (buf .entry))))) × (now (buf .exit) ≡ writeBuffer base (seen state) (now (frame .entry)) at (now (buf .entry))) ⌝ }
-{
-    let setup = state.setup;
-    let old = state.table;
-    let current = state.current;
-    let p = plan::plan_frame(setup.n, old, state.counter, frame);
-    let new = p.table;
-    let c = tally::count_changes(setup.n, old, new, current);
-    let need = 8 * c.events;
-    if buf.len() < at {
-        return refused(Verdict::NoRoom, state, need);
-    }
-    if buf.len() - at < need {
-        return refused(Verdict::NoRoom, state, need);
-    }
-    if c.events == 0 {
-        return taken(setup, new, current, p.counter, c.events, c.slots);
-    }
-    let last = send::send_frame(buf, at, old, new, c.others, current);
-    taken(setup, new, last, p.counter, c.events, c.slots)
 }
 
 // Writes a frame's events into `buf` from the position `at` on; refusals 2 to 5 in rising number.
@@ -173,5 +149,23 @@ pub fn write(state: WriterState, frame: &[i32], buf: &mut [u8], at: usize) -> Wr
     if !frame::values_ok(setup, frame) {
         return refused(Verdict::Value, state, 0);
     }
-    accept(state, frame, buf, at)
+    let old = state.table;
+    let current = state.current;
+    let p = plan::plan_frame(setup.n, old, state.counter, frame);
+    let new = p.table;
+    let c = p.changes;
+    let others = tally::without_current(c.slots, current);
+    let events = tally::event_count(c.numbers, others);
+    let need = 8 * events;
+    if buf.len() < at {
+        return refused(Verdict::NoRoom, state, need);
+    }
+    if buf.len() - at < need {
+        return refused(Verdict::NoRoom, state, need);
+    }
+    if events == 0 {
+        return taken(new, setup, current, p.counter, events, c.slots);
+    }
+    let last = send::send_frame(buf, at, old, new, others, current);
+    taken(new, setup, last, p.counter, events, c.slots)
 }

@@ -1,4 +1,4 @@
--- `plan::give_ids` makes the rest of a frame's table, and its counter. The first m of `taken` are the ids taken so far. Assumes nothing.
+-- `plan::give_ids` makes the rest of a frame's table, and its counter, and tells what changes. The first m of `taken` are the ids taken so far. Assumes nothing.
 use borrow.Author.Needs.{needs}
 use mathlib.Core.Path.{_≡_, refl, sym, ap, ap₂, _∙_}
 use mathlib.Core.Bool.{true, false, _&&_}
@@ -15,11 +15,15 @@ use mir.ValLaws.{toZ-ofZ}
 use Rattle.model.specs.Panel.{idCount, perSlot, records}
 use Rattle.model.specs.Numbers.{eqZ}
 use Rattle.model.specs.Table.{numbersOf, ids, unheld}
+use Rattle.model.specs.Sending.{changedIn}
 use Rattle.model.specs.Frame.{Fate, kindOf, fate, next, freeId, rowsFrom, slotAfter, takenAfter, counterAfter, Planned, after, planned}
 use Rattle.model.proofs.Tries.{Same, same-last, planned-same}
 use Rattle.panel.specs.declared.Slot.{Slot}
 use Rattle.common.specs.declared.TrackingId.{TrackingId}
 use Rattle.panel.specs.Seen.{slotOf, tableOf, blank, unused}
+use Rattle.tally.specs.declared.Changed.{Changed}
+use Rattle.tally.specs.Told.{withSlot, Tells}
+use Rattle.tally.proofs.Told.{told-set}
 use Rattle.common.proofs.Apart.{front-holds}
 use Rattle.plan.specs.Row.{begun, contactOf, stayed, plainRow, plainRows, planFrom}
 use Rattle.plan.proofs.Turn as Turn
@@ -27,8 +31,8 @@ use Rattle.plan.proofs.Turn.{begun-slot, stayed-slot, begun-taken, begu
 use Rattle.plan.proofs.give_ids.Statement.{statement}
 use Rattle.plan.proofs.give_ids.Tie as tie
 
--- The first s slots are made, and what is left is what was left at the start.
-record Made (n : ℕ) (frame : List ℤ) (promised : Planned) (taken : List ℤ) (m : ℕ) (t : List Slot) (k s : ℕ) : Type 0 where
+-- The first s slots are made, and what is left is what was left at the start. Whatever the old table is, if `before` says that its changes were told at the start, they are told now.
+record Made (n : ℕ) (frame : List ℤ) (promised : Planned) (before : List Slot → Type 0) (taken : List ℤ) (m : ℕ) (t : List Slot) (k s : ℕ) (c : Changed) : Type 0 where
   inside : s ≤ n
   fewTaken : m ≤ records + s
   counts : k < idCount
@@ -36,12 +40,14 @@ record Made (n : ℕ) (frame : List ℤ) (promised : Planned) (taken : List ℤ)
   places : length taken ≡ 2 * records
   plain : plainRows (rowsFrom perSlot (n - s) frame (perSlot * s)) ≡ true
   whole : promised ≡ planFrom (take m taken) k n frame t s
+  tells : (old : List Slot) → length old ≡ records → before old → Tells s old t c
 
 abbrev Inv-loop : tie.InvT-loop
-Inv-loop n counter frame from taken₀ m₀ t₀ k₀ s₀ taken m t k s = Made n frame (planFrom (take m₀ taken₀) k₀ n frame t₀ s₀) taken m t k s
+Inv-loop n counter frame taken₀ m₀ t₀ k₀ s₀ changes₀ taken m t k s changes =
+    Made n frame (planFrom (take m₀ taken₀) k₀ n frame t₀ s₀) (λ old. Tells s₀ old t₀ changes₀) taken m t k s changes
 
 abbrev μ-loop : tie.MeasureT-loop
-μ-loop n counter frame from taken₀ m₀ t₀ k₀ s₀ taken m t k s = n - s
+μ-loop n counter frame taken₀ m₀ t₀ k₀ s₀ changes₀ taken m t k s changes = n - s
 
 -- ---- places
 
@@ -60,14 +66,17 @@ abbrev top : Row → tie.At-loop Inv-loop μ-loop
 top b = turn b .before
 
 abbrev start : Row → tie.Start Inv-loop μ-loop
-start b = top b .before .before
+start b = top b .before .before .before
 
--- The arm in which a contact begins: it is known to, its id is chosen, held as an id, and the slot is made.
+-- The arm in which a contact begins: it is known to, its id is chosen, held as an id, the slot is made, and its changes are counted.
 abbrev Begun : Type 0
 Begun = tie.After-after Inv-loop μ-loop
 
+abbrev counted : Begun → tie.After-with-slot Inv-loop μ-loop
+counted c = c .before .before
+
 abbrev made : Begun → tie.After-contact Inv-loop μ-loop
-made c = c .before .before
+made c = counted c .before .before
 
 abbrev named : Begun → tie.After-id-of Inv-loop μ-loop
 named c = made c .before
@@ -78,12 +87,19 @@ chosen c = named c .before
 abbrev beginning : Begun → tie.Then1 Inv-loop μ-loop
 beginning c = chosen c .before .before
 
+-- Where the given id joins those taken.
+abbrev taking : tie.After-struct-told2 Inv-loop μ-loop → Row
+taking c = c .before .before .before .before .before .before .before .before
+
 -- The other arm.
 abbrev Stayed : Type 0
-Stayed = tie.After-stays Inv-loop μ-loop
+Stayed = tie.After-with-slot2 Inv-loop μ-loop
+
+abbrev kept : Stayed → tie.After-stays Inv-loop μ-loop
+kept c = c .before .before
 
 abbrev staying : Stayed → tie.Else1 Inv-loop μ-loop
-staying c = c .before
+staying c = kept c .before
 
 -- ---- slot s and its row
 
@@ -122,9 +138,15 @@ given b = freeId (taken b) (top b .loop .k)
 abbrev promised : Row → Planned
 promised b =
     let a = start b .args in
-    planFrom (take (n b) (top b .before .ids-of .result)) (a .counter) (n b) (fr b) (a .made) (a .from)
+    planFrom (take (n b) (top b .before .before .ids-of .result)) (a .counter) (n b) (fr b) (a .made) (a .from .slot)
 
-known : (b : Row) → Made (n b) (fr b) (promised b) (top b .loop .taken) (top b .loop .m) (t b) (top b .loop .k) (s b)
+-- What was told at the start, of an old table.
+abbrev before : Row → List Slot → Type 0
+before b old =
+    let a = start b .args in
+    Tells (a .from .slot) old (a .made) (a .from .changes)
+
+known : (b : Row) → Made (n b) (fr b) (promised b) (before b) (top b .loop .taken) (top b .loop .m) (t b) (top b .loop .k) (s b) (top b .loop .changes)
 known b = top b .loop .inv
 
 below : (b : Row) → s b < n b
@@ -154,6 +176,19 @@ turned : (b : Row) (w : Slot) (more : List ℤ) (k : ℕ)
 turned b w more k e same count =
     known b .whole ∙ Turn.row-turn (fr b) (s b) (n b) (below b) (taken b) (top b .loop .k) (t b) (inside b) w more k e same count
 
+-- What is told of the old table so far.
+told : (b : Row) → Tells (s b) (start b .args .old) (t b) (top b .loop .changes)
+told b =
+    let lo : length (start b .args .old) ≡ records = search needs in
+    known b .tells (start b .args .old) lo (start b .pre .2)
+
+-- Once the slot is w, of which d numbers changed, that is told too.
+telling : (b : Row) (w : Slot) (d : ℕ) → d ≤ perSlot → d ≡ changedIn (slotOf (was b)) (slotOf w)
+    → (old : List Slot) → length old ≡ records → before b old → Tells (s b + 1) old (set (t b) (s b) w) (withSlot (top b .loop .changes) (s b) d)
+telling b w d few e old l k =
+    let h : s b < length old = omega (arith, below b, start b .pre .0 .few) in
+    told-set old (t b) (s b) h (inside b) (top b .loop .changes) (known b .tells old l k) w d few e
+
 -- ---- the needs
 
 ids-of-requires : tie.Need-ids-of-requires Inv-loop μ-loop
@@ -161,10 +196,10 @@ ids-of-requires c κs = search needs
 
 loop-holds : tie.Need-loop-holds Inv-loop μ-loop
 loop-holds c =
-    let a = c .before .args in
-    let g = c .before .pre .0 in
+    let a = c .before .before .args in
+    let g = c .before .before .pre .0 in
     let lt : length (a .made) ≡ records = search needs in
-    let ll : length (c .ids-of .result) ≡ 2 * records = search needs in
+    let ll : length (c .before .ids-of .result) ≡ 2 * records = search needs in
     record {
       inside = g .inside;
       fewTaken = omega (arith, g .few);
@@ -173,6 +208,7 @@ loop-holds c =
       places = ll;
       plain = g .plain;
       whole = refl;
+      tells = λ old l k. k;
     }
 
 mul-row-at : tie.Need-mul-row-at Inv-loop μ-loop
@@ -180,7 +216,7 @@ mul-row-at c = search needs
 
 row-at-requires : tie.Need-row-at-requires Inv-loop μ-loop
 row-at-requires c κs =
-    let g = c .before .before .before .pre .0 in
+    let g = c .before .before .before .before .pre .0 in
     omega (arith, c .loop-test .taken, g .size)
 
 mul-was : tie.Need-mul-was Inv-loop μ-loop
@@ -220,20 +256,36 @@ mul-t c = search needs
 array-set-from-t : tie.Need-array-set-from-t Inv-loop μ-loop
 array-set-from-t c = search needs
 
+differ-requires : tie.Need-differ-requires Inv-loop μ-loop
+differ-requires c κs = search needs
+
+with-slot-requires : tie.Need-with-slot-requires Inv-loop μ-loop
+with-slot-requires c κs =
+    let b = c .before .before .before .before .before .before in
+    (omega (arith, below b, start b .pre .0 .few), c .differ .ensures .0, told b .before)
+
 mul-taken : tie.Need-mul-taken Inv-loop μ-loop
-mul-taken c = search needs
+mul-taken c =
+    let b = taking c in
+    omega (arith, placed b, known b .places)
 
 array-set-from-taken : tie.Need-array-set-from-taken Inv-loop μ-loop
-array-set-from-taken c = search needs
+array-set-from-taken c =
+    let b = taking c in
+    omega (arith, placed b, known b .places)
 
 add-m : tie.Need-add-m Inv-loop μ-loop
-add-m c = search needs
+add-m c =
+    let b = taking c in
+    omega (arith, placed b, known b .places)
 
 after-requires : tie.Need-after-requires Inv-loop μ-loop
 after-requires c κs = search needs
 
 add-s : tie.Need-add-s Inv-loop μ-loop
-add-s c = search needs
+add-s c =
+    let b = beginning c .before in
+    omega (arith, below b, start b .pre .0 .few)
 
 loop-less : tie.Need-loop-less Inv-loop μ-loop
 loop-less c = search needs
@@ -264,6 +316,7 @@ loop-again c =
       places = length-set (top b .loop .taken) m (pos j) ∙ known b .places;
       plain = Turn.plain-rest (fr b) (s b) (n b) (below b) (known b .plain);
       whole = turned b w more (c .after .result) slot same count;
+      tells = λ old l k. rw (counted c .with-slot .ensures) (telling b w (counted c .before .differ .result) (counted c .before .differ .ensures .0) (counted c .before .differ .ensures .1) old l k);
     })
 
 stays-requires : tie.Need-stays-requires Inv-loop μ-loop
@@ -275,6 +328,14 @@ mul-t-2 c = search needs
 array-set-from-t-2 : tie.Need-array-set-from-t-2 Inv-loop μ-loop
 array-set-from-t-2 c = search needs
 
+differ-requires-2 : tie.Need-differ-requires-2 Inv-loop μ-loop
+differ-requires-2 c κs = search needs
+
+with-slot-requires-2 : tie.Need-with-slot-requires-2 Inv-loop μ-loop
+with-slot-requires-2 c κs =
+    let b = c .before .before .before in
+    (omega (arith, below b, start b .pre .0 .few), c .differ2 .ensures .0, told b .before)
+
 add-s-2 : tie.Need-add-s-2 Inv-loop μ-loop
 add-s-2 c = search needs
 
@@ -285,8 +346,8 @@ loop-again-2 : tie.Need-loop-again-2 Inv-loop μ-loop
 loop-again-2 c =
     let b = staying c .before in
     let no : begun (becomes b) ≡ false = sym (begins-is b) ∙ staying c .if1 .left in
-    let w = c .stays .result in
-    let e : w ≡ stayed (eqZ (kind b) (pos 0)) (was b) (row b) = c .stays .ensures ∙ ap (λ g. stayed (eqZ (kindOf g) (pos 0)) (was b) g) (lent b .row-at .ensures) in
+    let w = kept c .stays .result in
+    let e : w ≡ stayed (eqZ (kind b) (pos 0)) (was b) (row b) = kept c .stays .ensures ∙ ap (λ g. stayed (eqZ (kindOf g) (pos 0)) (was b) g) (lent b .row-at .ensures) in
     let same : Same (takenAfter (becomes b) (given b) (taken b)) (taken b) = rw (stayed-taken (becomes b) (given b) (taken b) no) (λ i. refl) in
     let count : counterAfter (becomes b) (given b) (top b .loop .k) ≡ top b .loop .k = stayed-counter (becomes b) (given b) (top b .loop .k) no in
     let slot = ap slotOf e ∙ stayed-slot (was b) (fr b) (perSlot * s b) (given b) no (plain b) in
@@ -298,21 +359,28 @@ loop-again-2 c =
       places = known b .places;
       plain = Turn.plain-rest (fr b) (s b) (n b) (below b) (known b .plain);
       whole = turned b w (taken b) (top b .loop .k) slot same count;
+      tells = λ old l k. rw (c .with-slot2 .ensures) (telling b w (c .before .differ2 .result) (c .before .differ2 .ensures .0) (c .before .differ2 .ensures .1) old l k);
     }
 
 returns : tie.Need-returns Inv-loop μ-loop
 returns c =
     let l = c .before .loop in
-    let b = c .before .before in
+    let b = c .before .before .before in
     let a = b .before .args in
+    let from = a .from .slot in
     let old = take (a .n) (b .ids-of .result) in
-    let rows = rowsFrom perSlot (a .n - a .from) (a .frame .now) (perSlot * a .from) in
+    let rows = rowsFrom perSlot (a .n - from) (a .frame .now) (perSlot * from) in
     -- the ids that are gathered are those of the old table
     let same : Same (ids (tableOf (a .old))) old =
     λ k. front-holds slotOf unused refl (a .old) (a .n) records (b .before .pre .1) (pos k) refl ∙ ap (unheld (pos k)) (sym (b .ids-of .ensures)) in
-    let gathered = planned-same (ids (tableOf (a .old))) old (a .counter) rows (tableOf (drop (a .from) (a .made))) same in
-    sym (ap (after (tableOf (take (a .from) (a .made)))) gathered ∙ l .inv .whole
-    ∙ Turn.no-row (take (l .m) (l .taken)) (l .k) (a .n) (a .frame .now) (l .t) (l .s) (c .loop-test .left))
+    let gathered = planned-same (ids (tableOf (a .old))) old (a .counter) rows (tableOf (drop from (a .made))) same in
+    let made = Turn.no-row (take (l .m) (l .taken)) (l .k) (a .n) (a .frame .now) (l .t) (l .s) (c .loop-test .left) in
+    let lo : length (a .old) ≡ records = search needs in
+    let end : l .s ≡ a .n = omega (arith, l .inv .inside, c .loop-test .left) in
+    record {
+      plan = sym (ap (after (tableOf (take from (a .made)))) gathered ∙ l .inv .whole ∙ made);
+      tells = rw end at (l .inv .tells (a .old) lo (b .before .pre .2));
+    }
 
 pub give-ids-spec : {M : Type 1} → statement M
 give-ids-spec =
@@ -334,6 +402,8 @@ give-ids-spec =
     contact-requires
     mul-t
     array-set-from-t
+    differ-requires
+    with-slot-requires
     mul-taken
     array-set-from-taken
     add-m
@@ -344,6 +414,8 @@ give-ids-spec =
     stays-requires
     mul-t-2
     array-set-from-t-2
+    differ-requires-2
+    with-slot-requires-2
     add-s-2
     loop-less-2
     loop-again-2
