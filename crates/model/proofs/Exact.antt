@@ -74,7 +74,7 @@ exact rows n u e = exact-from 0 rows true n u (λ t. e) (λ t. absurd t)
 -- ---- a call's verdict
 
 -- A chain of tests answers the number of the first that fails.
-chain : (b : Bool) (why more : Verdict) (n : ℕ) → verdictNumber more ≡ n → verdictNumber (check b why more) ≡ cond b n (verdictNumber why)
+pub chain : (b : Bool) (why more : Verdict) (n : ℕ) → verdictNumber more ≡ n → verdictNumber (check b why more) ≡ cond b n (verdictNumber why)
 chain true why more n e = e
 chain false why more n e = refl
 
@@ -90,7 +90,7 @@ accepted-only C.notStale t = absurd t
 accepted-only C.image t = absurd t
 
 -- An answer that is accepted by name where the verdict is, and else carries it, has the verdict.
-carries : {A : Type 0} (verdict : A → Verdict) (v : Verdict) (x y : A) → verdict x ≡ C.accepted → verdict y ≡ v → verdict (cond (isAccepted v) x y) ≡ v
+pub carries : {A : Type 0} (verdict : A → Verdict) (v : Verdict) (x y : A) → verdict x ≡ C.accepted → verdict y ≡ v → verdict (cond (isAccepted v) x y) ≡ v
 carries {A} verdict v x y e f = by-test (isAccepted v) refl
   where
     by-test : (b : Bool) → isAccepted v ≡ b → verdict (cond b x y) ≡ v

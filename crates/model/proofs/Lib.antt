@@ -4,7 +4,8 @@
 --   Bench: the definitions give the sheet's rows P1 to P9.
 --   AtReport: the shown table stays but at a report, which shows what was pending.
 --   FirstBytes: what each of the 256 first bytes of a pod's report begins.
---   Instances: the theorems at the product's layout, at the cranes' beside it and at 32 records.
+--   Recorded: the recorder's worked cases (K2).
+--   Instances: the theorems at the product's layout, and at the cranes' beside it.
 --   Cranes: what a crane's reader has of the product's, and a shift with a gloved contact.
 -- Tools
 --   Bools: tests that pass or fail, and equal whole numbers.
@@ -55,6 +56,11 @@
 --   PiecesCases: P1's bytes in five ways of cutting, a load inside a record, and states that are refused, computed (K5).
 --   Pieces: pieces of any size read as the string that they make, and a load between them comes between two of its records.
 --   PiecesCalls: the calls of such a reader: exact refusals, fresh states, what is asked.
+--   Weights: the recorder's check fits 32 bits, and changes with any one byte (K2).
+--   Blocks: what one block is answered exactly when; a written one reads back, an altered one is refused.
+--   Recordings: a recording's blocks by their places; it reads back, and may be laid in parts.
+--   Tampered: blocks left out, doubled or in each other's place, bytes cut off, one byte altered.
+--   Laying: the recorder's calls that write, refused exactly when.
 pub mod Bench
 pub mod AtReport
 pub mod Cranes
@@ -100,4 +106,10 @@ pub mod Pieces
 pub mod PiecesCalls
 pub mod SelfTest
 pub mod Limits
+pub mod Recorded
+pub mod Weights
+pub mod Blocks
+pub mod Recordings
+pub mod Tampered
+pub mod Laying
 pub mod Instances

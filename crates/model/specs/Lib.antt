@@ -14,6 +14,8 @@ pub mod States
 pub mod Calls
 pub mod Pod
 pub mod Refusals
+pub mod Recorder
+pub mod Recorded
 pub mod Presses
 pub mod Pieces
 pub mod Bench
