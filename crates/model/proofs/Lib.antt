@@ -6,6 +6,8 @@
 --   FirstBytes: what each of the 256 first bytes of a pod's report begins.
 --   Recorded: the recorder's worked cases (K2).
 --   Instances: the theorems at the product's layout, and at the cranes' beside it.
+--   ForceSheet: what is read of the force stick's inputs, and what its writes leave.
+--   Instances: the theorems at the product's layout, and at the cranes' beside it.
 --   Cranes: what a crane's reader has of the product's, and a shift with a gloved contact.
 -- Tools
 --   Bools: tests that pass or fail, and equal whole numbers.
@@ -61,6 +63,16 @@
 --   Recordings: a recording's blocks by their places; it reads back, and may be laid in parts.
 --   Tampered: blocks left out, doubled or in each other's place, bytes cut off, one byte altered.
 --   Laying: the recorder's calls that write, refused exactly when.
+-- The force stick (K10)
+--   ForceBits: the numbers in a packet: CS, in which one altered byte shows, signed numbers, buttons and hat.
+--   ForcePackets: a packet at the start of bytes, by cases.
+--   ForceReads: reading at a position; the place moves on at every answer that does not wait.
+--   ForceCut: an answer by bytes before a cut stays, and every other waits.
+--   ForceAll: a reader of all packets ends, and goes on over a cut.
+--   ForceWritten: reading a written packet gives it back, wherever it stands.
+--   ForceForms: each report has one byte form.
+--   ForceAltered: one altered byte of a written packet is never read as its report, and what is answered.
+--   ForceCalls: exact refusals of a write, and the buffer afterwards.
 pub mod Bench
 pub mod AtReport
 pub mod Cranes
@@ -105,6 +117,16 @@ pub mod PiecesCases
 pub mod Pieces
 pub mod PiecesCalls
 pub mod SelfTest
+pub mod ForceSheet
+pub mod ForceBits
+pub mod ForcePackets
+pub mod ForceReads
+pub mod ForceCut
+pub mod ForceAll
+pub mod ForceWritten
+pub mod ForceForms
+pub mod ForceAltered
+pub mod ForceCalls
 pub mod Limits
 pub mod Recorded
 pub mod Weights

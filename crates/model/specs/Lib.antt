@@ -16,9 +16,11 @@ pub mod Pod
 pub mod Refusals
 pub mod Recorder
 pub mod Recorded
+pub mod Force
 pub mod Presses
 pub mod Pieces
 pub mod Bench
+pub mod ForceSheet
 pub mod Shift
 pub mod Narrow
 pub mod Unique
