@@ -13,6 +13,7 @@ use Rattle.panel.proofs.numbers_ok.Reads as numbers-ok
 use Rattle.panel.proofs.row_at.Reads as row-at
 use Rattle.panel.proofs.table_ok.Reads as table-ok
 use Rattle.panel.proofs.ids_differ.Reads as ids-differ
+use Rattle.panel.proofs.table_good.Reads as table-good
 use Rattle.panel.proofs.tables_same.Reads as tables-same
 
 pub unused-one : OneAnswer unused.Learnt
@@ -45,3 +46,6 @@ ids-differ-one κs a r q s t e g = e ∙ sym g
 
 pub tables-same-one : OneAnswer tables-same.Learnt
 tables-same-one κs a r q s t e g = e ∙ sym g
+
+pub table-good-one : OneAnswer table-good.Learnt
+table-good-one κs a r q s t e g = e ∙ sym g

@@ -1,5 +1,6 @@
 // The panel's types, and the tests of a setup, a slot and a table. The reader and the writer stand on it.
 ghost use mathlib.Core.Path.{_≡_};
+ghost use mathlib.Core.Bool.{_&&_};
 ghost use Prim.Native.Nat.{_+_, _<_, _≤_};
 ghost use lib.ListN.{length, take, drop};
 ghost use Rattle.model.specs.Panel.{base, setupGood, perSlot, records};
@@ -243,6 +244,49 @@ pub fn ids_differ(n: usize, t: [Slot; RECORDS]) -> bool
         }
     }
     true
+}
+
+// Whether the panel's slots are good and their live ids differ, in one walk: the tests of `slots_ok` and of `ids_differ` at each slot.
+fn slots_good(setup: Setup, t: [Slot; RECORDS]) -> bool
+    requires { ⌜ (setup .n ≤ records) × sameFrom (setup .n) t unusedAll ⌝ }
+    ensures { λ r. ⌜ r ≡ (goodRecords (fieldsOf setup) (setup .n) (tableOf (take (setup .n) t)) && idsApart (tableOf t)) ⌝ }
+{
+    let n = setup.n;
+    let mut held: u64 = 0;
+    let mut j: usize = 0;
+    while j < n {
+        let at = j;
+        let slot = t[at];
+        j += 1;
+        if !slot_ok(setup, slot) {
+            return false;
+        }
+        let q = slot.id;
+        let id = q.0;
+        if !common::same(id, -1) {
+            let mark = 1u64 << (common::nat_of(id) % 64);
+            if held & mark == 0 {
+                held = held | mark;
+            } else {
+                if !unheld_before(t, at, id) {
+                    return false;
+                }
+            }
+        }
+    }
+    true
+}
+
+// Whether a table is as a state's should be: good slots with live ids that differ, and unused records past them.
+pub fn table_good(setup: Setup, t: [Slot; RECORDS]) -> bool
+    requires { ⌜ setup .n ≤ records ⌝ }
+    ensures { λ r. ⌜ r ≡ (goodRecords (fieldsOf setup) (setup .n) (tableOf t) && idsApart (tableOf t)) ⌝ }
+{
+    let n = setup.n;
+    if !rest_unused(n, t) {
+        return false;
+    }
+    slots_good(setup, t)
 }
 
 pub fn tables_same(n: usize, a: [Slot; RECORDS], b: [Slot; RECORDS]) -> bool

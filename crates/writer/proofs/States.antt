@@ -19,14 +19,19 @@ use Rattle.writer.specs.Seen.{seen}
 
 -- ---- the tests
 
--- The whole test, from what its parts came to: the setup, the records, the ids, the current slot.
-pub good-by : (s : WriterState) → length (s .table) ≡ records → (a r d b : Bool)
-    → setupGood base (setupOf (s .setup)) ≡ a → goodRecords (fieldsOf (s .setup)) (s .setup .n) (tableOf (s .table)) ≡ r → idsDiffer (tableOf (s .table)) ≡ d → ltb (s .current .0) (s .setup .n) ≡ b
-    → writerGood base (seen s) ≡ (a && (r && d && b && ltb (s .counter) idCount))
+-- The whole test, from what its parts came to: the setup, the table, the current slot.
+pub good-by : (s : WriterState) → length (s .table) ≡ records → (a t b : Bool)
+    → setupGood base (setupOf (s .setup)) ≡ a → (goodRecords (fieldsOf (s .setup)) (s .setup .n) (tableOf (s .table)) && idsDiffer (tableOf (s .table))) ≡ t → ltb (s .current .0) (s .setup .n) ≡ b
+    → writerGood base (seen s) ≡ (a && (t && b && ltb (s .counter) idCount))
 unfolding writerGood
-good-by s l a r d b ea er ed eb =
+good-by s l a t b ea et eb =
     let e : eqb (length (tableOf (s .table))) records ≡ true = eq-eqb _ records (length-map (s .table) slotOf ∙ l) in
-    λ i. ea i && ((e i && er i) && ed i && eb i && ltb (s .counter) idCount)
+    let good = goodRecords (fieldsOf (s .setup)) (s .setup .n) (tableOf (s .table)) in
+    let apart = idsDiffer (tableOf (s .table)) in
+    let below = ltb (s .current .0) (s .setup .n) in
+    let counts = ltb (s .counter) idCount in
+    let length-holds : writerGood base (seen s) ≡ (setupGood base (setupOf (s .setup)) && ((true && good) && apart && below && counts)) = λ i. setupGood base (setupOf (s .setup)) && ((e i && good) && apart && below && counts) in
+    length-holds ∙ (λ i. ea i && (et i && eb i && counts))
 
 -- ---- what is known of a well-formed state
 

@@ -86,10 +86,7 @@ fn state_ok(s: WriterState) -> bool
     if !panel::setup_ok(setup) {
         return false;
     }
-    if !panel::table_ok(setup, table) {
-        return false;
-    }
-    if !panel::ids_differ(setup.n, table) {
+    if !panel::table_good(setup, table) {
         return false;
     }
     let current = s.current;
