@@ -6,7 +6,7 @@ use crate::events::{events, RECORD};
 use crate::reader::Reader;
 use crate::records;
 use crate::script::{head_numbers, layout_of, reader_numbers, table_numbers};
-use crate::script::{Call, Cut, MOST_NUMBERS, PIECES_NUMBERS, WRITER_HEAD, WRITER_NUMBERS};
+use crate::script::{Call, Cut, RecorderCall, MOST_NUMBERS, PIECES_NUMBERS, WRITER_HEAD, WRITER_NUMBERS};
 use crate::table::{Layout, Slot, Table};
 
 /// A whole brief script as a script for `drive`; an error names its line.
@@ -123,6 +123,14 @@ pub fn shorten(call: &Call) -> String {
             let head = words[..=WRITER_HEAD].join(" ");
             join(format!("{head} {}", short_table(Layout::Panel, &writer.table)), &words[WRITER_NUMBERS + 1..])
         }
+        Call::Recorder(call) => {
+            let mut line = words[..words.len() - call.bytes().len()].join(" ");
+            match call {
+                RecorderCall::Read { piece, .. } => put_runs(&mut line, piece),
+                _ => put_bytes(&mut line, call.bytes()),
+            }
+            line
+        }
         Call::Fresh(..) | Call::New(_) | Call::PiecesFresh(_) | Call::Start | Call::Pod { .. } => long,
     }
 }
@@ -145,6 +153,16 @@ fn put_cut(line: &mut String, held: u64, cut: &Cut) {
     let (first, rest) = cut.bytes.split_at(missing.min(cut.bytes.len()));
     put_plain(line, first);
     put_bytes(line, rest);
+}
+
+/// Bytes, and how often one comes where it comes often.
+fn put_runs(line: &mut String, bytes: &[u8]) {
+    for run in bytes.chunk_by(|a, b| a == b) {
+        match run.len() {
+            0..=3 => put_plain(line, run),
+            many => line.push_str(&format!(" ({})*{many}", run[0])),
+        }
+    }
 }
 
 fn short_reader(words: &[&str], reader: &Reader) -> String {

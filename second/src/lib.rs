@@ -1,8 +1,8 @@
 //! Panel and pod events, written from documents 01 and 02 alone: what the proved library is compared with.
 //!
-//! The rules: [`refusal`], [`table`], [`events`], [`reader`], [`pieces`], [`writer`], [`pod`].
-//! The programs: [`streams`], [`programs`]. The comparison: [`script`], [`maker`], [`random`], [`noise`], [`smaller`], [`tally`].
-//! Texts for people: [`records`], [`brief`].
+//! The rules: [`refusal`], [`table`], [`events`], [`reader`], [`pieces`], [`writer`], [`pod`], [`recorder`].
+//! The programs: [`streams`], [`programs`]. The comparison: [`script`], [`maker`], [`random`], [`noise`], [`smaller`], [`tally`], [`requests`].
+//! For people: texts in [`records`] and [`brief`], a class's [`shift`].
 
 pub mod brief;
 pub mod events;
@@ -13,9 +13,12 @@ pub mod pod;
 pub mod programs;
 pub mod random;
 pub mod reader;
+pub mod recorder;
 pub mod records;
 pub mod refusal;
+pub mod requests;
 pub mod script;
+pub mod shift;
 pub mod smaller;
 pub mod streams;
 pub mod table;

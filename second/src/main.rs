@@ -9,10 +9,11 @@ use std::os::unix::ffi::OsStrExt;
 use std::path::Path;
 use std::process::ExitCode;
 
+use second::requests::Request;
 use second::script::{answer_line, is_passed_over, lines_of, Call};
 use second::streams::{text, Status};
 use second::tally::Tally;
-use second::{brief, maker, noise, programs, records, smaller};
+use second::{brief, maker, noise, programs, records, shift, smaller};
 
 const USAGE: &str = "\
 second answer < SCRIPT                 the answers of a script of docs/DRIVE.md, as drive gives them
@@ -25,13 +26,23 @@ second expand < CASES                  a script from such short lines
 second cases                           the named cases, as a script
 second records encode < TEXT           a program's input from readable text
 second records decode [frames] < BYTES the text of such an input
+second shift FRAMES SEED               so many frames of a made-up shift, for write_frames
+second shift FRAMES SEED lost FRAME    the records of these frames, SYN_DROPPED for the first one from FRAME on that lifts a hand
 second noise PROGRAM SEED INDEX        one random input for a program
 second noises PROGRAM SEED FIRST COUNT FOLDER
                                        COUNT of them from FIRST on, with what the program answers, as files
-second show_table | crane_table | write_frames | show_pod | drive < BYTES
+second programs FOLDER                 the programs that have a folder there and a twin here, in one line
+second show_table | crane_table | write_frames | show_pod | record | replay | drive < BYTES
                                        the program of that name";
 
 const CASES: &str = include_str!("../cases.txt");
+
+/// The named cases of a request that `drive` did not always know.
+fn cases_of(request: Request) -> &'static str {
+    match request {
+        Request::Recorder => include_str!("../cases_recorder.txt"),
+    }
+}
 
 /// What went wrong, in words for standard error; `Differs` has already said it.
 enum Failure {
@@ -140,8 +151,20 @@ fn print(words: &[&str], out: &mut impl Write) -> Result<(), Failure> {
         }
         ["expand"] => out.write_all(brief::expand(&input()?)?.as_bytes())?,
         ["cases"] => {
-            let script = brief::expand(CASES).map_err(|error| format!("cases.txt: {error}"))?;
-            out.write_all(script.as_bytes())?;
+            for cases in [CASES].into_iter().chain(Request::MADE.iter().map(|request| cases_of(*request))) {
+                let script = brief::expand(cases).map_err(|error| format!("the named cases: {error}"))?;
+                out.write_all(script.as_bytes())?;
+            }
+        }
+        ["programs", folder] => {
+            let there: Vec<&str> =
+                programs::NAMES.into_iter().filter(|name| Path::new(folder).join(name).is_dir()).collect();
+            writeln!(out, "{}", there.join(" "))?;
+        }
+        ["shift", frames, seed] => shift::frames(number(frames)?, number(seed)?, out)?,
+        ["shift", frames, seed, "lost", frame] => {
+            let found = shift::records(number(frames)?, number(seed)?, number(frame)?, out)?;
+            found.ok_or_else(|| format!("in frames {frame} to {frames} no hand lifts, so nothing was lost"))?;
         }
         ["noise", program, seed, index] => {
             out.write_all(&noise_for(program, number(seed)?, number(index)?)?)?;
@@ -184,8 +207,8 @@ fn noises(program: &str, seed: u64, first: u64, count: u64, folder: &Path) -> Re
 
 fn tally(script: &str, answers: &str, out: &mut impl Write) -> Result<(), Failure> {
     let tally = Tally::of(script, answers)?;
-    writeln!(out, "{}", tally.report())?;
-    let missing = tally.missing();
+    writeln!(out, "{}", tally.report(Request::MADE))?;
+    let missing = tally.missing(Request::MADE);
     if missing.is_empty() {
         return Ok(());
     }

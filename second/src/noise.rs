@@ -7,6 +7,7 @@ use crate::maker::Maker;
 use crate::pod::Pod;
 use crate::programs::{write_frames, HEADER};
 use crate::reader::Reader;
+use crate::recorder::{block, BLOCK};
 use crate::table::{Layout, Setup, LIMITS, NUMBERS, SLOTS};
 use crate::writer::{Writer, LARGEST_FRAME};
 
@@ -27,15 +28,23 @@ pub fn noise(program: &str, seed: u64, index: u64) -> Option<Vec<u8>> {
     Some(match program {
         "show_pod" => pod_bytes(&mut maker, shape, length),
         "drive" => script(&mut maker, shape, length),
-        "show_table" | "crane_table" | "write_frames" if shape == 0 => odd_setup(&mut maker, layout, turn),
-        "show_table" | "crane_table" => after_setup(&mut maker, layout, length, |maker, setup| match shape {
-            1 => plain(maker, length),
-            _ if layout == Layout::Crane && maker.random.once_in(2) => sent(maker, setup, length),
-            _ => records(maker, layout, setup, length, shape == 3),
-        }),
+        "show_table" | "crane_table" | "write_frames" | "record" | "replay" if shape == 0 => {
+            odd_setup(&mut maker, layout, turn)
+        }
+        "show_table" | "crane_table" | "record" => {
+            after_setup(&mut maker, layout, length, |maker, setup| match shape {
+                1 => plain(maker, length),
+                _ if layout == Layout::Crane && maker.random.once_in(2) => sent(maker, setup, length),
+                _ => records(maker, layout, setup, length, shape == 3),
+            })
+        }
         "write_frames" => after_setup(&mut maker, layout, length, |maker, setup| match shape {
             1 => plain(maker, length),
             _ => frames(maker, setup, length),
+        }),
+        "replay" => after_setup(&mut maker, layout, length, |maker, setup| match shape {
+            1 => plain(maker, length),
+            _ => recording(maker, setup, length, shape == 3),
         }),
         _ => return None,
     })
@@ -176,6 +185,26 @@ fn sent(maker: &mut Maker, setup: Setup, length: usize) -> Vec<u8> {
     let frames = [header(&setup), frames(maker, setup, length)].concat();
     write_frames(&frames[..], &mut bytes, io::sink());
     bytes.split_off(HEADER)
+}
+
+/// Blocks of such records, at least so many bytes, some full and some not; where they are to be `damaged`, a few have something wrong.
+fn recording(maker: &mut Maker, setup: Setup, length: usize, damaged: bool) -> Vec<u8> {
+    let records = records(maker, Layout::Panel, setup, length, false);
+    let mut bytes = Vec::new();
+    let mut rest = &records[..];
+    for number in 1.. {
+        let Some(events) = maker.some_of(rest) else {
+            break;
+        };
+        rest = &rest[events.len()..];
+        bytes.extend(block(number, events).expect("1 to 62 records"));
+    }
+    let blocks = bytes.len() / BLOCK;
+    for _ in 0..if damaged && blocks > 0 { maker.random.from_to(1, 3) } else { 0 } {
+        let k = maker.random.below(blocks as u64) as usize;
+        maker.damage(&mut bytes[k * BLOCK..(k + 1) * BLOCK]);
+    }
+    bytes
 }
 
 fn pod_bytes(maker: &mut Maker, shape: u64, length: usize) -> Vec<u8> {

@@ -1,4 +1,8 @@
-//! The programs of docs/PROGRAMS.md as filters: `show_table`, `crane_table`, `write_frames`, `show_pod` and `drive`.
+//! The programs of docs/PROGRAMS.md as filters: `show_table`, `crane_table`, `write_frames`, `show_pod` and `drive` here, the recorder's in a file of their own.
+
+mod recording;
+
+pub use recording::{record, replay};
 
 use std::io::{self, Read, Write};
 
@@ -20,7 +24,7 @@ pub const HEADER: usize = (1 + NUMBERS) * NUMBER;
 pub const ROW: usize = SLOT_NUMBERS * NUMBER;
 
 /// The names that [`run`] takes.
-pub const NAMES: [&str; 5] = ["show_table", "crane_table", "write_frames", "show_pod", "drive"];
+pub const NAMES: [&str; 7] = ["show_table", "crane_table", "write_frames", "show_pod", "record", "replay", "drive"];
 
 /// What a setup's largest values are called, in their order.
 const LARGEST: [&str; NUMBERS] =
@@ -33,6 +37,8 @@ pub fn run(name: &str, input: impl Read, out: impl Write, err: impl Write) -> Op
         "crane_table" => crane_table(input, out, err),
         "write_frames" => write_frames(input, out, err),
         "show_pod" => show_pod(input, out, err),
+        "record" => record(input, out, err),
+        "replay" => replay(input, out, err),
         "drive" => drive(input, out, err),
         _ => return None,
     })
@@ -113,17 +119,31 @@ fn read_records<R: Read, W: Write, E: Write>(streams: &mut Streams<R, W, E>, lay
         Layout::Crane => run_records(streams, &mut reader, &mut read)?,
     };
     if ended == Came::Lost {
-        streams.words.say("input was lost, which counts as SYN_DROPPED");
-        reader.one(Event::DROPPED).expect(WELL_FORMED);
+        lose(streams, &mut reader);
     } else if cut > 0 {
         refused(streams, Refusal::Ragged)?;
         streams.words.say(&format!("the last record is cut: {cut} of {RECORD} bytes"));
         return Ok(());
     }
-    print_table(&reader, &mut streams.out)?;
+    show(streams, &reader, &read)
+}
+
+/// What a failed read cut is a loss.
+fn lose<R: Read, W: Write, E: Write>(streams: &mut Streams<R, W, E>, reader: &mut Reader) {
+    streams.words.say("input was lost, which counts as SYN_DROPPED");
+    reader.one(Event::DROPPED).expect(WELL_FORMED);
+}
+
+/// The table, and the hint where most records were strange.
+fn show<R: Read, W: Write, E: Write>(
+    streams: &mut Streams<R, W, E>,
+    reader: &Reader,
+    read: &Followed,
+) -> io::Result<()> {
+    print_table(reader, &mut streams.out)?;
     if read.was_mostly_strange() {
         streams.out.flush()?;
-        let what = match layout {
+        let what = match reader.layout {
             Layout::Panel => "were skipped",
             Layout::Crane => "have an unknown type",
         };
@@ -223,18 +243,26 @@ pub fn write_frames(input: impl Read, out: impl Write, err: impl Write) -> Statu
     streams.end(done)
 }
 
-fn send_frames<R: Read, W: Write, E: Write>(streams: &mut Streams<R, W, E>) -> io::Result<()> {
+/// Takes the setup and passes it on; `None` where it is refused, which is then said on standard error alone.
+fn passed_setup<R: Read, W: Write, E: Write>(streams: &mut Streams<R, W, E>) -> io::Result<Option<Setup>> {
     let setup = match setup(streams, Layout::Panel)? {
         Ok(setup) => setup,
         Err(wrong) => {
             streams.words.line(&format!("refused {}", Refusal::Setup.number()));
             refuse_setup(&mut streams.words, &wrong);
-            return Ok(());
+            return Ok(None);
         }
     };
     for number in [setup.slots as u32].iter().chain(&setup.largest) {
         streams.out.write_all(&number.to_le_bytes())?;
     }
+    Ok(Some(setup))
+}
+
+fn send_frames<R: Read, W: Write, E: Write>(streams: &mut Streams<R, W, E>) -> io::Result<()> {
+    let Some(setup) = passed_setup(streams)? else {
+        return Ok(());
+    };
     let mut writer = Writer::fresh(setup).expect("a setup without a wrong number is good");
     let size = ROW * setup.slots as usize;
     let mut k = 1u64;

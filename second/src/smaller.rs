@@ -4,7 +4,8 @@ use crate::events::{events, Event, ABS_MT_SLOT, EV_ABS, RECORD};
 use crate::pieces::PieceReader;
 use crate::pod::Pod;
 use crate::reader::{Mode, Reader};
-use crate::script::{Call, Cut};
+use crate::recorder::{put_check, BLOCK};
+use crate::script::{Call, Cut, RecorderCall};
 use crate::table::{Setup, Slot, SlotNumber, Table, SLOTS, SLOT_NUMBERS};
 use crate::writer::Writer;
 
@@ -39,6 +40,7 @@ fn weight_of(call: &Call) -> (usize, usize, u64, usize) {
     let words = || line.split(' ').skip(1);
     let (size, slots) = match call {
         Call::Write { size, writer, .. } => (*size, writer.setup.slots),
+        Call::Recorder(RecorderCall::Lay { size, .. }) => (*size, 0),
         _ => {
             let reader = call.pieces().map(|pieces| &pieces.reader).or(call.reader());
             (0, reader.map_or(0, |reader| reader.setup.slots))
@@ -82,6 +84,55 @@ fn candidates(call: &Call, give: &mut dyn FnMut(Call)) {
             }
         }
         Call::Load { reader, current, image } => smaller_loads(reader, *current, image, give),
+        Call::Recorder(call) => smaller_recordings(call, &mut |call| give(Call::Recorder(call))),
+    }
+}
+
+/// A lower number, fewer records, a smaller buffer; of a block that is read fewer bytes, or one of them 0.
+fn smaller_recordings(call: &RecorderCall, give: &mut dyn FnMut(RecorderCall)) {
+    match call {
+        RecorderCall::Block { number, records } => {
+            give(RecorderCall::Block { number: 1, records: records.clone() });
+            fewer_bytes(records, RECORD, &mut |records| give(RecorderCall::Block { number: *number, records }));
+        }
+        RecorderCall::Lay { number, position, size, records } => {
+            let mut with = |number: u32, (position, size): (u64, usize), records: &[u8]| {
+                give(RecorderCall::Lay { number, position, size, records: records.to_vec() });
+            };
+            with(1, (*position, *size), records);
+            smaller_place(*position, *size, &mut |position, size| with(*number, (position, size), records));
+            fewer_bytes(records, RECORD, &mut |records| with(*number, (*position, *size), &records));
+        }
+        RecorderCall::Read { number, piece } => {
+            fewer_bytes(piece, 1, &mut |piece| give(RecorderCall::Read { number: *number, piece }));
+            smaller_blocks(piece, &mut |piece| give(RecorderCall::Read { number: *number, piece }));
+        }
+    }
+}
+
+/// One byte of a block is 0, with the check as it was and with the one that then fits.
+fn smaller_blocks(piece: &[u8], give: &mut dyn FnMut(Vec<u8>)) {
+    let Ok(block) = <[u8; BLOCK]>::try_from(piece) else {
+        return;
+    };
+    for place in 0..BLOCK {
+        let mut fewer = block;
+        fewer[place] = 0;
+        give(fewer.to_vec());
+        put_check(&mut fewer);
+        give(fewer.to_vec());
+    }
+}
+
+/// Without some whole parts of so many bytes, or without a byte at the end.
+fn fewer_bytes(bytes: &[u8], part: usize, give: &mut dyn FnMut(Vec<u8>)) {
+    for part in parts(bytes.len(), part) {
+        let mut fewer = bytes.to_vec();
+        fewer.drain(part);
+        give(fewer);
+    }
+    if bytes.len() % part > 1 {
+        give(bytes[..bytes.len() - 1].to_vec());
     }
 }
 
@@ -178,17 +229,21 @@ fn smaller_room(call: &Call, give: &mut dyn FnMut(Call)) {
     let Call::Write { writer, position, size, frame } = call else {
         return;
     };
-    let mut with = |position: u64, size: usize| {
+    smaller_place(*position, *size, &mut |position, size| {
         give(Call::Write { writer: writer.clone(), position, size, frame: frame.clone() });
-    };
-    for less in [*position, position / 2, 1] {
-        if less > 0 && less <= *position && less <= *size as u64 {
-            with(position - less, size - less as usize);
+    });
+}
+
+/// A lower position with as many bytes behind it, or fewer bytes.
+fn smaller_place(position: u64, size: usize, give: &mut dyn FnMut(u64, usize)) {
+    for less in [position, position / 2, 1] {
+        if less > 0 && less <= position && less <= size as u64 {
+            give(position - less, size - less as usize);
         }
     }
-    for less in [*size, size / 2, 64, 8, 1] {
-        if less > 0 && less <= *size {
-            with(*position, size - less);
+    for less in [size, size / 2, 64, 8, 1] {
+        if less > 0 && less <= size {
+            give(position, size - less);
         }
     }
 }

@@ -4,10 +4,18 @@ use second::brief::expand;
 use second::script::{answer_line, is_passed_over, Call, BAD_LINE, WRITER_NUMBERS};
 
 const CASES: &str = include_str!("../cases.txt");
+/// Those of the requests that `drive` did not always know.
+const LATER: [&str; 1] = [include_str!("../cases_recorder.txt")];
 
 #[test]
 fn every_case_is_a_named_call() {
-    let script = expand(CASES).unwrap();
+    assert!(named_calls(CASES) > 100);
+    assert!(LATER.into_iter().all(|cases| named_calls(cases) > 10));
+}
+
+/// How many calls these cases have.
+fn named_calls(cases: &str) -> usize {
+    let script = expand(cases).unwrap();
     let mut name = "";
     let mut calls = 0;
     for line in script.lines() {
@@ -24,14 +32,14 @@ fn every_case_is_a_named_call() {
                 .filter(|word| word.len() == 1 && word.as_bytes()[0].is_ascii_digit() && !name.contains(" is not"))
             {
                 assert!(
-                    answer.starts_with(&format!("{verdict} ")) || answer.ends_with(&format!("refused {verdict}")),
+                    answer.split(' ').next() == Some(verdict) || answer.ends_with(&format!("refused {verdict}")),
                     "{name}: {answer}"
                 );
             }
             calls += 1;
         }
     }
-    assert!(calls > 100);
+    calls
 }
 
 #[test]

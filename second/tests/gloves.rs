@@ -215,7 +215,7 @@ fn a_crane_does_all_else_as_the_panel_does() {
     const ANOTHER: u16 = 0x32;
     let mut maker = Maker::new(23);
     let mut runs = 0;
-    for _ in 0..30_000 {
+    for _ in 0..50_000 {
         let Some(Call::Run { reader, bytes: records }) = Call::parse(maker.next_line().as_bytes()) else {
             continue;
         };

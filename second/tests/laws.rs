@@ -26,7 +26,7 @@ fn asked(before: &Slot, wanted: &[i32]) -> Slot {
 #[test]
 fn frames() {
     let mut accepted = 0;
-    for call in calls(21, 20_000) {
+    for call in calls(21, 40_000) {
         let Call::Write { writer, position, size, frame } = call else {
             continue;
         };

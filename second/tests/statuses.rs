@@ -6,7 +6,7 @@ use std::process::{Command, Output, Stdio};
 use std::sync::{Mutex, MutexGuard, PoisonError};
 
 const SETUP: [u8; 24] = [1, 0, 0, 0, 9, 0, 0, 0, 9, 0, 0, 0, 9, 0, 0, 0, 9, 0, 0, 0, 9, 0, 0, 0];
-const PROGRAMS: [&str; 5] = ["show_table", "crane_table", "write_frames", "show_pod", "drive"];
+const PROGRAMS: [&str; 7] = ["show_table", "crane_table", "write_frames", "show_pod", "record", "replay", "drive"];
 
 /// Tests take turns: a process that another one has just begun still holds the pipes of this one, and a closed one would not be closed.
 fn turn() -> MutexGuard<'static, ()> {
@@ -41,7 +41,7 @@ fn accepted_and_refused() {
     let _turn = turn();
     let run = |program: &str, bytes: &[u8]| output(&mut second(&[program]), bytes).status.code();
     let frame = |kind: u8| [&SETUP[..], &[kind, 0, 0, 0], &[0; 8], &[1, 0, 0, 0], &[0; 8]].concat();
-    for program in ["show_table", "crane_table"] {
+    for program in ["show_table", "crane_table", "record", "replay"] {
         assert_eq!(run(program, &SETUP), Some(0));
         assert_eq!(run(program, &SETUP[..23]), Some(1));
         assert_eq!(run(program, &SETUP[..16]), Some(1));
@@ -78,6 +78,8 @@ fn failed_reads() {
             &["write_frames"],
             format!("write_frames: {failed}refused 1\nwrite_frames: the setup is cut: 0 of 24 bytes\n"),
         ),
+        (&["record"], format!("record: {failed}refused 1\nrecord: the setup is cut: 0 of 24 bytes\n")),
+        (&["replay"], format!("replay: {failed}replay: the setup is cut: 0 of 24 bytes\n")),
         (&["crane_table"], format!("crane_table: {failed}crane_table: the setup is cut: 0 of 24 bytes\n")),
         (&["show_pod"], format!("show_pod: {failed}")),
         (&["drive"], format!("drive: {failed}")),
@@ -97,6 +99,8 @@ fn failed_writes() {
         (&["crane_table"], "crane_table", &SETUP),
         (&["write_frames"], "write_frames", &SETUP),
         (&["show_pod"], "show_pod", &[1]),
+        (&["record"], "record", &SETUP),
+        (&["replay"], "replay", &SETUP),
         (&["drive"], "drive", b"start\n"),
         (&["records", "encode"], "second", b"REPORT\n"),
         (&["records", "decode", "frames"], "second", &SETUP),

@@ -1,5 +1,5 @@
 // One function a call: its parameters from the line's numbers, the library's answer said. The numbers were held to the call's kinds before.
-use crate::calls::BUFFER;
+use crate::blocks;
 use crate::calls::Call;
 use crate::calls::NUMBERS;
 use crate::calls::POD;
@@ -16,8 +16,6 @@ use reader::RunAnswer;
 use stream::Out;
 use writer::WriterState;
 use writer::Written;
-ghost use mathlib.Core.Path.{_≡_};
-ghost use lib.ListN.{length};
 
 fn fresh(page: &mut [u8], out: Out, ns: &[u64]) -> Out {
     let s = states::setup_of(ns);
@@ -81,19 +79,6 @@ fn ask(page: &mut [u8], out: Out, ns: &[u64]) -> Out {
     say::slot_answer(page, out, reader::ask(states::reader_of(ns), slot))
 }
 
-// Marks, so that a byte that was touched shows.
-fn marks() -> [u8; BUFFER]
-    ensures { λ r. ⌜ 4096 ≡ length r ⌝ }
-{
-    let mut buf = io::buffer();
-    let mut i: usize = 0;
-    while i < BUFFER {
-        buf[i] = ((37 * i + 11) % 256) as u8;
-        i += 1;
-    }
-    buf
-}
-
 fn say_sent(page: &mut [u8], out: Out, count: usize, changed: u64, need: usize) -> Out {
     let a = say::number(page, out, count);
     let b = words::say_number(page, a, changed);
@@ -112,14 +97,13 @@ fn write_into(page: &mut [u8], out: Out, ns: &[u64], frame: &[i32], buf: &mut [u
     let position = states::number(ns, WRITER) as usize;
     let a = writer::write(states::writer_of(ns), frame, buf, position);
     let o = written(page, out, a);
-    let p = stream::say(page, o, b" :");
-    words::say_bytes(page, p, buf)
+    say::buffer(page, o, buf)
 }
 
 fn write(page: &mut [u8], out: Out, ns: &[u64]) -> Out {
     let mut frame = [0i32; NUMBERS];
     let count = states::frame_of(ns, WRITER + 2, &mut frame);
-    let mut buf = marks();
+    let mut buf = states::marks();
     let size = stream::within(states::number(ns, WRITER + 1) as usize, &buf);
     write_into(page, out, ns, &frame[..count], &mut buf[..size])
 }
@@ -194,6 +178,9 @@ pub fn answer(page: &mut [u8], out: Out, call: Call, ns: &[u64]) -> Out {
         Call::PiecesTake => cut::take(page, out, ns),
         Call::PiecesLoad => cut::load(page, out, ns),
         Call::PiecesAsk => cut::ask(page, out, ns),
+        Call::RecorderBlock => blocks::block(page, out, ns),
+        Call::RecorderLay => blocks::lay(page, out, ns),
+        Call::RecorderRead => blocks::read(page, out, ns),
         Call::None => out,
     }
 }

@@ -23,6 +23,9 @@ pub enum Call {
     PiecesTake,
     PiecesLoad,
     PiecesAsk,
+    RecorderBlock,
+    RecorderLay,
+    RecorderRead,
     None,
 }
 
@@ -59,6 +62,11 @@ pub const CRANE_SETUP: usize = 4;
 pub const CRANE_TABLE: usize = crane_panel::PER_SLOT * crane_panel::RECORDS;
 
 pub const CRANE_READER: usize = CRANE_SETUP + 2 + 2 * CRANE_TABLE;
+
+// What stands before the bytes of a recorder's call: a block's number; or a number, a position and a size.
+pub const BLOCK_BYTES: usize = 1;
+
+pub const LAY_BYTES: usize = 3;
 
 // The most numbers of a line, and the bytes of the largest buffer.
 pub const NUMBERS: usize = 12000;
@@ -131,6 +139,20 @@ fn pod_or_pieces(line: &[u8], start: usize) -> Call {
     named(line, start, b"pieces_ask", Call::PiecesAsk)
 }
 
+// A reader's run, or a call of the recorder.
+fn run_or_recorder(line: &[u8], start: usize) -> Call {
+    if is(line, start, b"run") {
+        return Call::Run;
+    }
+    if is(line, start, b"recorder_block") {
+        return Call::RecorderBlock;
+    }
+    if is(line, start, b"recorder_lay") {
+        return Call::RecorderLay;
+    }
+    named(line, start, b"recorder_read", Call::RecorderRead)
+}
+
 // The call that a line's word at `start` names. The other names differ in their first letters.
 pub fn call_of(line: &[u8], start: usize) -> Call {
     if start >= line.len() {
@@ -140,7 +162,7 @@ pub fn call_of(line: &[u8], start: usize) -> Call {
     match letter {
         b'f' => named(line, start, b"fresh", Call::Fresh),
         b'n' => named(line, start, b"new", Call::New),
-        b'r' => named(line, start, b"run", Call::Run),
+        b'r' => run_or_recorder(line, start),
         b'o' => named(line, start, b"one", Call::One),
         b'l' => named(line, start, b"load", Call::Load),
         b'a' => named(line, start, b"ask", Call::Ask),
@@ -296,6 +318,23 @@ fn pod_kind(i: usize) -> Kind {
     }
 }
 
+// A block's number, then bytes.
+fn block_kind(i: usize) -> Kind {
+    match i {
+        0 => Kind::Bits32,
+        _ => Kind::Bits8,
+    }
+}
+
+fn lay_kind(i: usize) -> Kind {
+    match i {
+        0 => Kind::Bits32,
+        1 => Kind::Bits64,
+        2 => Kind::Size,
+        _ => Kind::Bits8,
+    }
+}
+
 // The kind of a call's number i.
 pub fn kind_at(call: Call, i: usize) -> Kind {
     match call {
@@ -314,6 +353,9 @@ pub fn kind_at(call: Call, i: usize) -> Kind {
         Call::PiecesTake => pieces_kind(call, i),
         Call::PiecesLoad => pieces_kind(call, i),
         Call::PiecesAsk => pieces_kind(call, i),
+        Call::RecorderBlock => block_kind(i),
+        Call::RecorderLay => lay_kind(i),
+        Call::RecorderRead => block_kind(i),
         Call::None => Kind::None,
         _ => reader_kind(call, i),
     }
@@ -342,6 +384,9 @@ pub fn fewest(call: Call) -> usize {
         Call::PiecesTake => PIECES + 2,
         Call::PiecesLoad => PIECES + 1,
         Call::PiecesAsk => PIECES + 1,
+        Call::RecorderBlock => BLOCK_BYTES,
+        Call::RecorderLay => LAY_BYTES,
+        Call::RecorderRead => BLOCK_BYTES,
         Call::None => 1,
     }
 }

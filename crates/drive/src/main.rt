@@ -1,5 +1,6 @@
 // Makes each call of a script on the proved library and prints every part of its answer: docs/DRIVE.md. What an independent program is compared through.
 mod answers;
+mod blocks;
 mod calls;
 mod crane;
 mod cut;

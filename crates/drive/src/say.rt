@@ -114,3 +114,9 @@ pub fn slot_answer(page: &mut [u8], out: Out, a: SlotAnswer) -> Out {
         SlotAnswer::Refused(v) => refused(page, out, v),
     }
 }
+
+// A buffer's bytes behind an answer's numbers.
+pub fn buffer(page: &mut [u8], out: Out, bytes: &[u8]) -> Out {
+    let a = stream::say(page, out, b" :");
+    words::say_bytes(page, a, bytes)
+}

@@ -1,4 +1,5 @@
 // The parameters of a call, made of a line's numbers. The line was held to the call's kinds before, so nothing is cut off here.
+use crate::calls::BUFFER;
 use crate::calls::SETUP;
 use crate::calls::TABLE;
 use common::Mode;
@@ -155,4 +156,17 @@ pub fn frame_of(ns: &[u64], from: usize, out: &mut [i32]) -> usize
         i += 1;
     }
     count
+}
+
+// Marks, so that a byte that was touched shows.
+pub fn marks() -> [u8; BUFFER]
+    ensures { λ r. ⌜ 4096 ≡ length r ⌝ }
+{
+    let mut buf = io::buffer();
+    let mut i: usize = 0;
+    while i < BUFFER {
+        buf[i] = ((37 * i + 11) % 256) as u8;
+        i += 1;
+    }
+    buf
 }

@@ -222,19 +222,14 @@ fn read_all(page: &mut [u8], begun: Standing) -> Out {
     s.out
 }
 
-fn refuse_setup(page: &mut [u8], out: Out, h: Header) -> Out {
-    let a = stream::say_refused(page, out, Verdict::Setup);
-    header::explain(a, b"explain", h)
-}
-
 fn after_setup(page: &mut [u8], out: Out, h: Header) -> Out {
     if h.count < header::BYTES {
-        return refuse_setup(page, out, h);
+        return header::say_refused(page, out, b"explain", h);
     }
     let a = LineState::fresh(h.n as usize, h.x, h.y, h.pressure, h.major, h.minor);
     let v = a.verdict;
     if v.number() != 0 {
-        return refuse_setup(page, out, h);
+        return header::say_refused(page, out, b"explain", h);
     }
     let state = a.state;
     let sums = Sums::none();

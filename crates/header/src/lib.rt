@@ -1,4 +1,5 @@
 // The setup in front of a program's input: n, largest x, y, pressure, major and minor, each 32 bits and little-endian; and what was wrong with them, in words.
+use common::Verdict;
 use panel::MOST_POSITION;
 use panel::MOST_PRESSURE;
 use panel::MOST_SIZE;
@@ -77,4 +78,16 @@ pub fn explain(out: Out, name: &[u8], h: Header) -> Out {
         MOST_PRESSURE as u64,
     );
     warn_sizes(p, name, h)
+}
+
+// A refused setup, where standard output has the answer.
+pub fn say_refused(page: &mut [u8], out: Out, name: &[u8], h: Header) -> Out {
+    let a = stream::say_refused(page, out, Verdict::Setup);
+    explain(a, name, h)
+}
+
+// And where standard output has data.
+pub fn warn_refused(out: Out, name: &[u8], h: Header) -> Out {
+    let a = stream::warn_refused(out, Verdict::Setup);
+    explain(a, name, h)
 }

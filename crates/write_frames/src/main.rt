@@ -250,11 +250,6 @@ fn read_all(page: &mut [u8], buf: &mut [u8], s: Sending, want: usize) -> Out {
     last.out
 }
 
-fn refuse_setup(out: Out, h: Header) -> Out {
-    let a = stream::warn_refused(out, Verdict::Setup);
-    header::explain(a, b"write_frames", h)
-}
-
 // By itself, since an array that is lent is known to have its length, which spares a proof that a field does.
 fn say_header(page: &mut [u8], out: Out, bytes: &[u8; header::BYTES]) -> Out {
     stream::say(page, out, bytes)
@@ -262,13 +257,13 @@ fn say_header(page: &mut [u8], out: Out, bytes: &[u8; header::BYTES]) -> Out {
 
 fn after_setup(page: &mut [u8], out: Out, h: Header) -> Out {
     if h.count < header::BYTES {
-        return refuse_setup(out, h);
+        return header::warn_refused(out, b"write_frames", h);
     }
     let n = h.n as usize;
     let a = WriterState::fresh(n, h.x, h.y, h.pressure, h.major, h.minor);
     let verdict = a.verdict;
     if verdict.number() != 0 {
-        return refuse_setup(out, h);
+        return header::warn_refused(out, b"write_frames", h);
     }
     let head = h.bytes;
     let state = a.state;

@@ -2,7 +2,7 @@
 
 use super::Maker;
 use crate::script::{head_numbers, reader_numbers, setup_numbers};
-use crate::script::{Call, CRANE, PIECES, PIECES_NUMBERS, POD_NUMBERS, WRITER_NUMBERS};
+use crate::script::{Call, RecorderCall, CRANE, PIECES, PIECES_NUMBERS, POD_NUMBERS, RECORDER, WRITER_NUMBERS};
 use crate::table::Layout;
 
 /// Numbers that a type cannot hold: the next ones outside, and such as would be cut to good ones.
@@ -140,6 +140,9 @@ impl Maker {
         if let Some(name) = name.strip_prefix(PIECES).filter(|_| self.random.once_in(2)) {
             return self.random.pick(&["piece_", "pieces", "pieces-", "Pieces_"]).to_string() + name;
         }
+        if let Some(name) = name.strip_prefix(RECORDER) {
+            return self.random.pick(&["record_", "recorder", "recorder-", "crane_recorder_", ""]).to_string() + name;
+        }
         match (call.layout(), name.strip_prefix(CRANE)) {
             (None, _) => format!("{CRANE}{name}"),
             (_, Some(name)) => {
@@ -185,7 +188,7 @@ impl Maker {
         let layout = call.layout().unwrap_or(Layout::Panel);
         let setup = (1..=setup_numbers(layout)).map(|place| (place, if place == 1 { NO_64_BITS } else { NO_32_BITS }));
         let (tables, last_of_head) = match call {
-            Call::Start | Call::Pod { .. } => return Vec::new(),
+            Call::Start | Call::Pod { .. } | Call::Recorder(_) => return Vec::new(),
             Call::Fresh(..) | Call::New(_) | Call::PiecesFresh(_) => return setup.collect(),
             Call::Write { .. } => (1, vec![NO_32_BITS]),
             _ => (2, vec![NO_MODE, NO_MODE]),
@@ -226,6 +229,7 @@ impl Maker {
                 let frame = if last > state { vec![(last, NO_SIGNED_32)] } else { Vec::new() };
                 [&room[..], &room, &frame].concat()
             }
+            Call::Recorder(call) => recorder_places(call, last),
             _ => Vec::new(),
         }
     }
@@ -244,13 +248,27 @@ fn fixed(call: &Call) -> usize {
         Call::One { .. } => reader_numbers(layout) + 3,
         Call::Run { .. } | Call::Good { .. } => reader_numbers(layout),
         Call::Write { .. } => WRITER_NUMBERS + 2,
+        Call::Recorder(RecorderCall::Lay { .. }) => 3,
+        Call::Recorder(_) => 1,
     }
+}
+
+/// Places of a recorder's call, and what their types cannot hold.
+fn recorder_places(call: &RecorderCall, last: usize) -> Vec<(usize, Outside)> {
+    let mut places = vec![(1, NO_32_BITS)];
+    if let RecorderCall::Lay { .. } = call {
+        places.extend([(2, NO_64_BITS), (3, NO_SIZE)]);
+    }
+    if !call.bytes().is_empty() {
+        places.push((last, NO_BYTE));
+    }
+    places
 }
 
 /// Whether more numbers than that make it another call and no bad line.
 pub(super) fn takes_any_count(call: &Call) -> bool {
     let is_load = matches!(call, Call::Load { .. } | Call::PiecesLoad { .. });
-    is_load || matches!(call, Call::Run { .. } | Call::Write { .. } | Call::Pod { .. })
+    is_load || matches!(call, Call::Run { .. } | Call::Write { .. } | Call::Pod { .. } | Call::Recorder(_))
 }
 
 /// A word that begins as the call's does.
@@ -270,6 +288,9 @@ fn other_word(call: &Call) -> String {
         Call::PiecesAsk { .. } => "pieces_all",
         Call::Start => "stop",
         Call::Pod { .. } => "put",
+        Call::Recorder(RecorderCall::Block { .. }) => "recorder_blow",
+        Call::Recorder(RecorderCall::Lay { .. }) => "recorder_load",
+        Call::Recorder(RecorderCall::Read { .. }) => "recorder_run",
     };
     let prefix = if call.layout() == Some(Layout::Crane) { CRANE } else { "" };
     format!("{prefix}{word}")

@@ -9,6 +9,7 @@ mod loads;
 mod numbers;
 mod pieces;
 mod pods;
+mod recorder;
 mod runs;
 mod states;
 pub mod tried;
@@ -17,6 +18,7 @@ mod writing;
 use crate::pod::Pod;
 use crate::random::Random;
 use crate::reader::Reader;
+use crate::requests::Request;
 use crate::script::Call;
 use crate::table::Layout;
 use crate::writer::Writer;
@@ -26,6 +28,9 @@ const KEPT_STATES: usize = 6;
 /// One line in so many is at a limit. There are five kinds of them, so that 4,000 calls try each.
 const LIMIT_TURN: u64 = 800;
 const LIMITS: u64 = 5;
+/// So many calls in a turn are those of 01 and of the requests that `drive` always knew; each later request adds so many.
+const TURN: u64 = 108;
+const LATER: u64 = 12;
 
 /// Makes one call after the other; some go on from the states that those before them ended in.
 pub struct Maker {
@@ -38,11 +43,17 @@ pub struct Maker {
     next_unknown: [u64; 2],
     tags: Vec<&'static str>,
     made: u64,
+    requests: &'static [Request],
 }
 
 impl Maker {
-    /// The same seed makes the same script.
+    /// The same seed makes the same script, of calls that `drive` knows.
     pub fn new(seed: u64) -> Maker {
+        Maker::with(seed, Request::MADE)
+    }
+
+    /// The same with the calls of these requests.
+    pub fn with(seed: u64, requests: &'static [Request]) -> Maker {
         let mut maker = Maker {
             random: Random::new(seed),
             writers: Vec::new(),
@@ -53,6 +64,7 @@ impl Maker {
             next_unknown: [0; 2],
             tags: Vec::new(),
             made: 0,
+            requests,
         };
         for _ in 0..KEPT_STATES {
             let setup = maker.setup(Layout::Panel);
@@ -94,7 +106,7 @@ impl Maker {
     }
 
     fn call(&mut self) -> Call {
-        match self.random.below(108) {
+        match self.random.below(TURN + LATER * self.requests.len() as u64) {
             0..=3 => Call::New(self.any_setup(Layout::Panel)),
             4..=32 => self.write(),
             33..=67 => self.reader_call(Layout::Panel),
@@ -104,7 +116,14 @@ impl Maker {
             }
             91 => Call::Start,
             92..=99 => self.pod(),
-            _ => self.pieces_call(),
+            100..TURN => self.pieces_call(),
+            turn => self.later_call(self.requests[((turn - TURN) / LATER) as usize]),
+        }
+    }
+
+    fn later_call(&mut self, request: Request) -> Call {
+        match request {
+            Request::Recorder => Call::Recorder(self.recorder_call()),
         }
     }
 
@@ -135,7 +154,7 @@ mod tests {
     #[test]
     fn the_same_seed_makes_the_same_script() {
         let script = |seed| {
-            let mut maker = Maker::new(seed);
+            let mut maker = Maker::with(seed, Request::ALL);
             (0..200).map(|_| maker.lines()).collect::<String>()
         };
         assert_eq!(script(1), script(1));
@@ -157,7 +176,7 @@ mod tests {
 
     #[test]
     fn comments_say_what_is_true_of_their_line() {
-        let mut maker = Maker::new(3);
+        let mut maker = Maker::with(3, Request::ALL);
         for _ in 0..4000 {
             let lines = maker.lines();
             let (comment, line) = lines.strip_suffix('\n').unwrap().split_once('\n').unwrap();

@@ -1,5 +1,7 @@
 //! What a script tries, by the names in its comment lines. A tally that misses one of them is a script that was too short, or a hole in the maker.
 
+use crate::requests::Request;
+
 /// What a comment begins with where the call is one of a crane's reader.
 pub const CRANE: &str = "crane";
 
@@ -147,16 +149,53 @@ const OTHERS: &[&str] = &[
 /// What is tried with a crane's reader alone.
 const CRANES: &[&str] = &["setup: a wide panel's n", "record: a touch size"];
 
-/// Whether a comment may say so.
-pub(super) fn is_tried(tag: &str) -> bool {
-    [READER, OTHERS, CRANES].iter().any(|list| list.contains(&tag))
+/// What is tried with the recorder.
+const RECORDER: &[&str] = &[
+    "recorder: number 0",
+    "recorder: the last number",
+    "recorder: numbers past the last",
+    "recorder: no records",
+    "recorder: 62 records",
+    "recorder: a block over full",
+    "recorder: several blocks",
+    "recorder: ragged",
+    "recorder: ragged, without room",
+    "recorder: as many blocks as may be",
+    "recorder: a good block",
+    "recorder: one byte altered",
+    "recorder: one bit of the check altered",
+    "recorder: two bytes altered, the sum as it was",
+    "recorder: another number expected",
+    "recorder: another number written",
+    "recorder: count over 62",
+    "recorder: count one less",
+    "recorder: count one more",
+    "recorder: byte 6 or 7 not zero",
+    "recorder: a byte behind the events not zero",
+    "recorder: several faults",
+    "recorder: a piece cut",
+    "recorder: a piece too long",
+];
+
+/// What is tried with a request that `drive` did not always know.
+fn later(request: Request) -> &'static [&'static str] {
+    match request {
+        Request::Recorder => RECORDER,
+    }
 }
 
-/// Each of them, in order; what is tried with a crane's reader has its word in front.
-pub fn all() -> Vec<String> {
+/// Whether a comment may say so.
+pub(super) fn is_tried(tag: &str) -> bool {
+    let later = Request::ALL.iter().any(|request| later(*request).contains(&tag));
+    later || [READER, OTHERS, CRANES].iter().any(|list| list.contains(&tag))
+}
+
+/// Each of them, in order, with those of these requests; what is tried with a crane's reader has its word in front.
+pub fn all(requests: &[Request]) -> Vec<String> {
     let plain = READER.iter().chain(OTHERS).map(|tag| tag.to_string());
     let cranes = READER.iter().chain(CRANES).map(|tag| format!("{CRANE} {tag}"));
-    plain.chain(cranes).collect()
+    let later = requests.iter().flat_map(|request| later(*request)).map(|tag| tag.to_string());
+    plain.chain(cranes).chain(later).collect()
 }
 
 /// What one comment line says is tried, by the same names.

@@ -223,7 +223,7 @@ impl Maker {
     }
 
     /// Position and size for a frame of this need.
-    fn room(&mut self, need: usize) -> (u64, usize) {
+    pub(super) fn room(&mut self, need: usize) -> (u64, usize) {
         let position = self.position();
         let end = position as usize + need;
         match self.random.below(14) {

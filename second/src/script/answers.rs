@@ -52,6 +52,7 @@ impl Call {
             Call::PiecesAsk { pieces, slot } => line.asked(Layout::Panel, pieces.ask(*slot)),
             Call::Start => line.pod(&Pod::FRESH),
             Call::Pod { pod, bytes } => line.reports(*pod, bytes),
+            Call::Recorder(call) => call.answer(&mut line),
         }
         line.text()
     }
@@ -99,8 +100,7 @@ impl Line {
         self.put(events);
         self.put(changed);
         self.put(written.err().map_or(0, Refusal::need));
-        self.put(":");
-        self.all(&buffer);
+        self.buffer(&buffer);
     }
 
     fn reports(&mut self, mut pod: Pod, bytes: &[u8]) {

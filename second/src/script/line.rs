@@ -36,6 +36,12 @@ impl Line {
         }
     }
 
+    /// The bytes behind a `:`.
+    pub(super) fn buffer(&mut self, bytes: &[u8]) {
+        self.put(":");
+        self.all(bytes);
+    }
+
     pub(super) fn verdict<T>(&mut self, outcome: &Result<T, Refusal>) {
         self.put(outcome.as_ref().err().map_or(0, |refusal| refusal.number()));
     }

@@ -3,10 +3,12 @@
 mod answers;
 mod line;
 mod numbers;
+mod recorder;
 #[cfg(test)]
 mod tests;
 
 pub use answers::InWords;
+pub use recorder::{RecorderCall, RECORDER};
 
 use crate::events::Event;
 use crate::pieces::{PieceReader, LEFT_OVER};
@@ -21,7 +23,7 @@ use numbers::Numbers;
 pub const LONGEST_LINE: usize = 65_535;
 /// The numbers that a line has at most.
 pub const MOST_NUMBERS: usize = 12_000;
-/// The bytes that the buffer of a `write` has at most.
+/// The bytes that a buffer has at most.
 pub const LARGEST_BUFFER: usize = 4_096;
 /// The answer to a line that is no call.
 pub const BAD_LINE: &str = "bad line";
@@ -78,6 +80,7 @@ pub enum Call {
     PiecesAsk { pieces: PieceReader, slot: SlotNumber },
     Start,
     Pod { pod: Pod, bytes: Vec<u8> },
+    Recorder(RecorderCall),
 }
 
 /// A string of bytes and the lengths of the pieces that it is cut into, which together are its own.
@@ -105,7 +108,7 @@ impl Cut {
     }
 }
 
-/// The marks that a buffer holds before a `write`.
+/// The marks that a buffer holds before a call writes into it.
 pub fn marks(size: usize) -> Vec<u8> {
     (0..size).map(|i| (37 * i + 11) as u8).collect()
 }
@@ -146,6 +149,9 @@ impl Call {
         let call = match (layout, name) {
             (Layout::Panel, "new" | "write" | "start" | "pod") => numbers.other_call(name)?,
             (Layout::Panel, _) if name.starts_with(PIECES) => numbers.pieces_call(name)?,
+            (Layout::Panel, _) if name.starts_with(RECORDER) => {
+                Call::Recorder(RecorderCall::parse(name, &mut numbers)?)
+            }
             _ => numbers.reader_call(layout, name)?,
         };
         numbers.is_done().then_some(call)
@@ -198,6 +204,7 @@ impl Call {
             Call::PiecesAsk { .. } => "pieces_ask",
             Call::Start => "start",
             Call::Pod { .. } => "pod",
+            Call::Recorder(call) => call.name(),
         };
         let prefix = if self.layout() == Some(Layout::Crane) { CRANE } else { "" };
         format!("{prefix}{name}")
@@ -214,7 +221,7 @@ impl Call {
             }
             Call::Write { writer, .. } => line.writer(writer),
             Call::Pod { pod, .. } => line.pod(pod),
-            Call::Start => {}
+            Call::Start | Call::Recorder(_) => {}
             Call::Run { reader, .. }
             | Call::One { reader, .. }
             | Call::Load { reader, .. }
@@ -248,6 +255,7 @@ impl Call {
                 line.put(size);
                 line.all(frame);
             }
+            Call::Recorder(call) => call.put(line),
             Call::Fresh(..) | Call::New(_) | Call::Good { .. } | Call::PiecesFresh(_) | Call::Start => {}
         }
     }

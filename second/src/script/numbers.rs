@@ -54,12 +54,9 @@ impl Numbers {
     pub(super) fn other_call(&mut self, name: &str) -> Option<Call> {
         Some(match name {
             "new" => Call::New(self.setup(Layout::Panel)?),
-            "write" => Call::Write {
-                writer: self.writer()?,
-                position: self.one()?,
-                size: self.one::<usize>().filter(|size| *size <= LARGEST_BUFFER)?,
-                frame: self.rest()?,
-            },
+            "write" => {
+                Call::Write { writer: self.writer()?, position: self.one()?, size: self.size()?, frame: self.rest()? }
+            }
             "start" => Call::Start,
             "pod" => Call::Pod { pod: self.pod()?, bytes: self.rest().filter(|bytes: &Vec<u8>| !bytes.is_empty())? },
             _ => return None,
@@ -91,12 +88,17 @@ impl Numbers {
         Some(Cut { lengths, bytes: self.rest()? }).filter(Cut::is_whole)
     }
 
-    fn one<T: TryFrom<i128>>(&mut self) -> Option<T> {
+    pub(super) fn one<T: TryFrom<i128>>(&mut self) -> Option<T> {
         T::try_from(self.0.next()?).ok()
     }
 
-    fn rest<T: TryFrom<i128>>(&mut self) -> Option<Vec<T>> {
+    pub(super) fn rest<T: TryFrom<i128>>(&mut self) -> Option<Vec<T>> {
         self.0.by_ref().map(|n| T::try_from(n).ok()).collect()
+    }
+
+    /// How many bytes a buffer has.
+    pub(super) fn size(&mut self) -> Option<usize> {
+        self.one().filter(|size| *size <= LARGEST_BUFFER)
     }
 
     fn setup(&mut self, layout: Layout) -> Option<Setup> {

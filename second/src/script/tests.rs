@@ -135,6 +135,37 @@ fn a_refused_setup_leaves_zeros() {
 }
 
 #[test]
+fn blocks_made_laid_and_read() {
+    let event = "3 0 57 0 0 0 0 0";
+    let block = format!("1 0 0 0 1 0 0 0 {event}{} 148 2 0 0", " 0".repeat(492));
+    assert_eq!(answer(&format!("recorder_block 1 {event}")), format!("0 : {block}"));
+    assert_eq!(answer("recorder_block 1"), format!("4 :{}", " 0".repeat(512)));
+    assert_eq!(answer("recorder_block 1 7"), format!("6 :{}", " 0".repeat(512)));
+    assert_eq!(answer(&format!("recorder_lay 1 1 514 {event}")), format!("0 1 2 0 : 11 {block} 48"));
+    assert_eq!(answer(&format!("recorder_lay 1 0 3 {event}")), "5 0 0 512 : 11 48 85");
+    assert_eq!(answer("recorder_lay 4294967295 0 1"), "0 0 4294967295 0 : 11");
+    assert_eq!(answer("recorder_lay 0 0 1"), "4 0 0 0 : 11");
+    assert_eq!(answer(&format!("recorder_read 1 {block}")), "0 8 1");
+    assert_eq!(answer(&format!("recorder_read 2 {block}")), "2");
+    assert_eq!(answer(&format!("recorder_read 1 {block} 0")), "1");
+    assert_eq!(answer("recorder_read 1"), "1");
+    for line in [
+        "recorder_block",
+        "recorder_block 4294967296",
+        "recorder_block -1 0",
+        "recorder_block 1 256",
+        "recorder_lay 1 0",
+        "recorder_lay 1 0 4097",
+        "recorder_lay 1 -1 0",
+        "recorder_read",
+        "crane_recorder_read 1",
+        "recorder_ 1",
+    ] {
+        assert_eq!(answer(line), BAD_LINE, "{line}");
+    }
+}
+
+#[test]
 fn a_buffer_keeps_its_marks() {
     let writer = format!("1 9 9 9 9 9 0 0 {}", empty());
     assert_eq!(answer(&format!("write {writer}0 4 0 0 0 0 0 0")), format!("0 {writer}0 0 0 : 11 48 85 122"));
@@ -186,7 +217,7 @@ fn lines_that_are_no_call() {
     }
 }
 
-const NAMES: [&str; 20] = [
+const NAMES: [&str; 23] = [
     "fresh",
     "new",
     "run",
@@ -207,6 +238,9 @@ const NAMES: [&str; 20] = [
     "pieces_take",
     "pieces_load",
     "pieces_ask",
+    "recorder_block",
+    "recorder_lay",
+    "recorder_read",
 ];
 
 /// Numbers with which that name is a call.
@@ -226,6 +260,8 @@ fn numbers_for(name: &str) -> String {
         (_, "pod") => "0 0 0 0 0 0 0 1".to_string(),
         (_, "pieces_fresh") => "1 2 3 4 5 6".to_string(),
         (_, "pieces_take") => format!("{reader}0 0 0 0 0 0 0 0 2 1 0 9"),
+        (_, "recorder_block" | "recorder_read") => "1".to_string(),
+        (_, "recorder_lay") => "1 0 0".to_string(),
         (_, "pieces_load" | "pieces_ask") => format!("{reader}0 0 0 0 0 0 0 0 0"),
         _ => String::new(),
     }

@@ -1,5 +1,6 @@
 //! Everything that documents 01 and 02 let a call answer, in the words of the tally.
 
+use crate::requests::Request;
 use crate::script::{BAD_LINE, CRANE};
 
 /// Of a reader, the panel's and a crane's.
@@ -174,9 +175,50 @@ const OTHERS: &[&str] = &[
     BAD_LINE,
 ];
 
-/// Each of them, in the order of the report.
-pub(super) fn all() -> Vec<String> {
+/// Of the recorder.
+const RECORDER: &[&str] = &[
+    "recorder_block 0",
+    "recorder_block 4",
+    "recorder_block 6",
+    "recorder_block: 1 event",
+    "recorder_block: 62 events",
+    "recorder_block: the last number",
+    "recorder_lay 0",
+    "recorder_lay 4",
+    "recorder_lay 5",
+    "recorder_lay 6",
+    "recorder_lay: no block",
+    "recorder_lay: one block",
+    "recorder_lay: several blocks",
+    "recorder_lay: all blocks are full",
+    "recorder_lay: the last number is used",
+    "recorder_lay: no room, a need",
+    "recorder_lay: no room, no need",
+    "recorder_lay: no room, ragged",
+    "recorder_read 0",
+    "recorder_read 1",
+    "recorder_read 2",
+    "recorder_read 3",
+    "recorder_read 4",
+    "recorder_read: no event",
+    "recorder_read: 1 event",
+    "recorder_read: 62 events",
+    "recorder_read: wrong check, 512 bytes",
+    "recorder_read: wrong check, fewer bytes",
+    "recorder_read: wrong check, more bytes",
+];
+
+/// Of a request that `drive` did not always know.
+fn later(request: Request) -> &'static [&'static str] {
+    match request {
+        Request::Recorder => RECORDER,
+    }
+}
+
+/// Each of them, in the order of the report, with those of these requests.
+pub(super) fn all(requests: &[Request]) -> Vec<String> {
     let panel = READER.iter().chain(PANEL).map(|name| name.to_string());
     let cranes = READER.iter().chain(CRANES).map(|name| format!("{CRANE}{name}"));
-    panel.chain(cranes).chain(OTHERS.iter().map(|name| name.to_string())).collect()
+    let later = requests.iter().flat_map(|request| later(*request));
+    panel.chain(cranes).chain(OTHERS.iter().chain(later).map(|name| name.to_string())).collect()
 }

@@ -3,6 +3,7 @@
 mod expected;
 mod pieces;
 mod reading;
+mod recorder;
 #[cfg(test)]
 mod tests;
 mod wide;
@@ -12,6 +13,7 @@ use std::collections::BTreeMap;
 
 use crate::maker::tried;
 use crate::reader::Mode;
+use crate::requests::Request;
 use crate::script::{is_passed_over, lines_of, Call, BAD_LINE, POD_NUMBERS};
 
 /// The words of an answer. What is tallied may be anything, so a word that is not there is an empty one.
@@ -103,6 +105,7 @@ impl Tally {
             }
             Call::Run { .. } | Call::One { .. } if verdict == "0" => self.count_run(&call, &said),
             Call::Write { writer, frame, .. } => self.count_write(writer, frame, &said),
+            Call::Recorder(call) => self.count_recorder(call, &said),
             _ => {}
         }
     }
@@ -128,23 +131,23 @@ impl Tally {
         }
     }
 
-    /// What should have occurred and never did.
-    pub fn missing(&self) -> Vec<String> {
+    /// What should have occurred and never did, in a script with the calls of these requests.
+    pub fn missing(&self, requests: &[Request]) -> Vec<String> {
         let never = |counted: &BTreeMap<String, u64>, names: Vec<String>| {
             names.into_iter().filter(|name| !counted.contains_key(name)).collect::<Vec<_>>()
         };
-        let mut missing = never(&self.seen, expected::all());
-        missing.extend(never(&self.tried, tried::all()));
+        let mut missing = never(&self.seen, expected::all(requests));
+        missing.extend(never(&self.tried, tried::all(requests)));
         missing
     }
 
     /// The report: expected answers in their order, then any others, then what was tried.
-    pub fn report(&self) -> String {
-        let mut names = expected::all();
+    pub fn report(&self, requests: &[Request]) -> String {
+        let mut names = expected::all(requests);
         let others: Vec<String> = self.seen.keys().filter(|name| !names.contains(name)).cloned().collect();
         names.extend(others);
         let mut report = format!("{} calls; answers:\n{}", self.calls, rows(&self.seen, &names));
-        let tried = tried::all();
+        let tried = tried::all(requests);
         if tried.iter().any(|name| self.tried.contains_key(name)) {
             report.push_str("\ntried:\n");
             report.push_str(&rows(&self.tried, &tried));

@@ -3,19 +3,20 @@
 use super::*;
 use crate::maker::Maker;
 use crate::programs::drive;
+use crate::requests::Request;
 use crate::script::answer_line;
 
 #[test]
 fn some_thousands_of_calls_show_everything() {
     for seed in [1, 2, 3] {
-        let mut maker = Maker::new(seed);
-        let script: String = (0..8000).map(|_| maker.lines()).collect();
+        let mut maker = Maker::with(seed, Request::ALL);
+        let script: String = (0..10_000).map(|_| maker.lines()).collect();
         let mut answers = Vec::new();
         drive(script.as_bytes(), &mut answers, std::io::sink());
         let tally = Tally::of(&script, std::str::from_utf8(&answers).unwrap()).unwrap();
-        assert_eq!(tally.missing(), [""; 0], "seed {seed}");
+        assert_eq!(tally.missing(Request::ALL), [""; 0], "seed {seed}");
         for name in tally.seen.keys() {
-            assert!(expected::all().contains(name), "{name}");
+            assert!(expected::all(Request::ALL).contains(name), "{name}");
         }
     }
 }
@@ -29,7 +30,7 @@ fn too_few_and_too_many_answers() {
 /// A library that is wrong may answer anything, cut or long, to any line.
 #[test]
 fn any_line_with_any_answer_is_counted() {
-    let mut maker = Maker::new(9);
+    let mut maker = Maker::with(9, Request::ALL);
     let lines: Vec<String> =
         (0..400).map(|_| maker.next_line()).filter(|line| !is_passed_over(line.as_bytes())).collect();
     for line in lines.iter().map(String::as_str).chain(["stop", "  ", "fresh"]) {
@@ -39,7 +40,7 @@ fn any_line_with_any_answer_is_counted() {
             ["", " ", "0", "4", "5", "7", "unknown", "contact", " / ", BAD_LINE, "-1 x", cut, &format!("0 {right}")]
         {
             let tally = Tally::of(&format!("{line}\n"), &format!("{answer}\n")).unwrap();
-            assert!(tally.report().starts_with("1 calls"), "{line}, {answer}");
+            assert!(tally.report(Request::ALL).starts_with("1 calls"), "{line}, {answer}");
         }
     }
     for step in ["0 0 0 0 0 0 0 relative", "0 0 0 0 0 0 0 self-test", "0 0 0 0 0 0 0 stick"] {

@@ -11,6 +11,7 @@ mod losses;
 mod pieces;
 mod pods;
 mod pressures;
+mod recorder;
 mod records;
 mod sent;
 mod skips;
@@ -20,6 +21,7 @@ mod wide;
 mod wrong;
 
 use second::maker::Maker;
+use second::requests::Request;
 use second::script::{answer_line, Call};
 use second::table::Layout;
 use wrong::{Asked, Wrong};
@@ -47,7 +49,7 @@ impl On {
 
 /// After how many calls of a seed's script each mistake is noticed; `None` for one that is not.
 fn noticed(wrongs: &[Wrong], on: On, seed: u64) -> Vec<Option<usize>> {
-    let mut maker = Maker::new(seed);
+    let mut maker = Maker::with(seed, Request::ALL);
     let mut after = vec![None; wrongs.len()];
     for round in 1..=ROUNDS {
         if after.iter().all(Option::is_some) {
@@ -178,10 +180,15 @@ fn of_pods() {
     all_are_noticed("pods", On::All, pods::all());
 }
 
+#[test]
+fn of_recordings() {
+    all_are_noticed("recorder", On::All, recorder::all());
+}
+
 /// Without a mistake the ways to answer wrongly answer right; else what is noticed might be theirs.
 #[test]
 fn without_a_mistake_nothing_is_noticed() {
-    let right = [
+    let mut right = vec![
         wrong::takes("calls", |_| {}),
         wrong::says("words", |_, _| {}),
         wrong::steps("records", wrong::right_step),
@@ -189,5 +196,6 @@ fn without_a_mistake_nothing_is_noticed() {
         wrong::cuts("pieces", |pieces, piece| pieces.take(piece)),
         slow_writer::writes("frames", |_| {}),
     ];
+    right.extend(recorder::right());
     assert_eq!(noticed(&right, On::All, 4), vec![None; right.len()]);
 }

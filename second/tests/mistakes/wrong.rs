@@ -4,8 +4,9 @@ use second::events::{events, Event, EV_ABS, EV_SYN};
 use second::pieces::PieceReader;
 use second::pod::{Pod, Report};
 use second::reader::{Ran, Reader};
+use second::recorder::BLOCK;
 use second::refusal::Refusal;
-use second::script::{marks, reader_numbers, Call, InWords, PIECES_NUMBERS, WRITER_NUMBERS};
+use second::script::{marks, reader_numbers, Call, InWords, RecorderCall, PIECES_NUMBERS, WRITER_NUMBERS};
 use second::table::SlotNumber;
 use second::writer::Writer;
 
@@ -183,6 +184,7 @@ pub fn refusal(answer: &str, call: &Call) -> u8 {
 fn verdict(answer: &str, call: &Call) -> (u8, Option<String>) {
     let need = match call {
         Call::Write { .. } => answer.split(' ').nth(WRITER_NUMBERS + 3).map(str::to_string),
+        Call::Recorder(RecorderCall::Lay { .. }) => answer.split(' ').nth(3).map(str::to_string),
         _ => None,
     };
     (refusal(answer, call), need)
@@ -209,6 +211,9 @@ fn refused(call: &Call, number: u8) -> String {
             format!("{number} {} 0 0 0 :{}", writer_text(writer), bytes_text(&marks(*size)))
         }
         Call::Start | Call::Pod { .. } => format!("refused {number}"),
+        Call::Recorder(RecorderCall::Block { .. }) => format!("{number} :{}", " 0".repeat(BLOCK)),
+        Call::Recorder(RecorderCall::Lay { size, .. }) => format!("{number} 0 0 0 :{}", bytes_text(&marks(*size))),
+        Call::Recorder(RecorderCall::Read { .. }) => number.to_string(),
     }
 }
 

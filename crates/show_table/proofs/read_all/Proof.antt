@@ -10,6 +10,9 @@ Inv-loop r₀ turns₀ r turns = turns ≤ turns
 abbrev μ-loop : tie.MeasureT-loop
 μ-loop r₀ turns₀ r turns = turns
 
+none-requires : tie.Need-none-requires Inv-loop μ-loop
+none-requires c κs = search needs
+
 loop-holds : tie.Need-loop-holds Inv-loop μ-loop
 loop-holds c = search needs
 
@@ -37,6 +40,7 @@ read-all-spec =
     (tie.spec
     Inv-loop
     μ-loop
+    none-requires
     loop-holds
     read-some-requires
     returns

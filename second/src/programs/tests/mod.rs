@@ -1,5 +1,6 @@
 //! The programs held to docs/PROGRAMS.md: every word on both streams and the status, whole inputs and odd pieces, failed reads and writes.
 
+mod recording;
 mod tables;
 
 use super::*;
@@ -138,9 +139,11 @@ fn a_failed_write_is_said_and_ends_the_program() {
         ("crane_table", encoded("SETUP 1 9 9 9 9 9\n")),
         ("write_frames", encoded("SETUP 1 9 9 9 9 9\nFRAME 1 0 0 1 0 0\nFRAME 3 0 0 0 0 0\n")),
         ("show_pod", vec![1; 20]),
+        ("record", encoded("SETUP 1 9 9 9 9 9\nX 1\n")),
+        ("replay", encoded("SETUP 1 9 9 9 9 9\n")),
         ("drive", b"start\nstart\nstart\n".to_vec()),
     ] {
-        for room in 0..60 {
+        for room in (0..60).chain([500, 536]) {
             let (mut out, mut err) = (Full { taken: Vec::new(), room }, Vec::new());
             let status = run(program, Pieces { bytes: &bytes, size: 16, fails: true }, &mut out, &mut err).unwrap();
             let words = String::from_utf8(err).unwrap();
@@ -149,7 +152,8 @@ fn a_failed_write_is_said_and_ends_the_program() {
             let failed = format!("{program}: a write to standard output failed: No space left on device\n");
             assert_eq!(words.ends_with(&failed), room < whole.len(), "{words}");
             // What is said to have been sent was sent.
-            assert_eq!(words.contains("was sent"), program == "write_frames" && room >= whole.len());
+            let tells = ["write_frames", "record"].contains(&program) && room >= whole.len();
+            assert_eq!(words.contains("was sent") || words.contains("was recorded"), tells);
         }
     }
 }
@@ -171,6 +175,8 @@ fn long_inputs_are_answered_as_in_one_piece() {
         "FRAME 1 1 1 1 0 0  2 2 2 2 0 0  0 0 0 0 0 0  3 0 0 0 0 0  1 9 9 9 0 0\nFRAME 1 1 2 1 0 0  2 2 2 2 0 0  0 0 0 0 0 0  0 0 0 0 0 0  1 9 9 9 0 0\n";
     let inputs = [
         ("show_table", records.clone()),
+        ("record", records.clone()),
+        ("replay", answers("record", &records, usize::MAX, false).1),
         ("crane_table", records),
         ("write_frames", encoded(&("SETUP 5 9 9 9 9 9\n".to_string() + &frame.repeat(2_000)))),
         ("show_pod", [0xF7, 1, 2, 3, 4, 5, 0xFD, 0x80, 0, 0x11].repeat(20_000)),
@@ -194,7 +200,7 @@ fn noise_is_answered_and_tries_every_word_of_the_page() {
             let whole = answers(program, &bytes, usize::MAX, false);
             assert!(answers(program, &bytes, 11, false) == whole, "{program} {index}");
             seen += &whole.2;
-            if program != "write_frames" {
+            if !["write_frames", "record"].contains(&program) {
                 seen += &String::from_utf8(whole.1).unwrap();
             }
         }
@@ -216,6 +222,13 @@ fn noise_is_answered_and_tries_every_word_of_the_page() {
         "frame 2 refused 4\n",
         "show_table: most records were skipped",
         "crane_table: most records have an unknown type",
+        "record: the setup is cut: 23 of 24",
+        "record: the last record is cut: 7 of 8",
+        "replay: the setup is cut: 23 of 24",
+        "block 1 refused: wrong check\n",
+        "refused: wrong number\n",
+        "refused: count over 62\n",
+        "refused: not zero\n",
         "more\n",
         "self-test passed\n",
         "up 112\n",
@@ -224,7 +237,7 @@ fn noise_is_answered_and_tries_every_word_of_the_page() {
     ] {
         assert!(seen.contains(part), "{part}");
     }
-    for program in ["show_table", "write_frames", "crane_table"] {
+    for program in ["show_table", "write_frames", "crane_table", "record", "replay"] {
         for (i, number) in ["n"].iter().chain(&LARGEST).enumerate() {
             let is_judged = program != "crane_table" || i < 4;
             assert_eq!(seen.contains(&format!("{program}: {number} is ")), is_judged, "{program}: {number}");

@@ -1,0 +1,2 @@
+-- What the promise of `lose` settles.
+pub mod Unique
