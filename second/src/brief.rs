@@ -131,7 +131,7 @@ pub fn shorten(call: &Call) -> String {
             }
             line
         }
-        Call::Fresh(..) | Call::New(_) | Call::PiecesFresh(_) | Call::Start | Call::Pod { .. } => long,
+        Call::Fresh(..) | Call::New(_) | Call::PiecesFresh(_) | Call::Start | Call::Pod { .. } | Call::Force(_) => long,
     }
 }
 

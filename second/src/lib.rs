@@ -1,11 +1,12 @@
 //! Panel and pod events, written from documents 01 and 02 alone: what the proved library is compared with.
 //!
-//! The rules: [`refusal`], [`table`], [`events`], [`reader`], [`pieces`], [`writer`], [`pod`], [`recorder`].
+//! The rules: [`refusal`], [`table`], [`events`], [`reader`], [`pieces`], [`writer`], [`pod`], [`recorder`], [`force`].
 //! The programs: [`streams`], [`programs`]. The comparison: [`script`], [`maker`], [`random`], [`noise`], [`smaller`], [`tally`], [`requests`].
 //! For people: texts in [`records`] and [`brief`], a class's [`shift`].
 
 pub mod brief;
 pub mod events;
+pub mod force;
 pub mod maker;
 pub mod noise;
 pub mod pieces;

@@ -3,6 +3,7 @@
 use std::io;
 
 use crate::events::Event;
+use crate::force::{LEN, OP, START};
 use crate::maker::Maker;
 use crate::pod::Pod;
 use crate::programs::{write_frames, HEADER};
@@ -27,6 +28,8 @@ pub fn noise(program: &str, seed: u64, index: u64) -> Option<Vec<u8>> {
     let layout = if program == "crane_table" { Layout::Crane } else { Layout::Panel };
     Some(match program {
         "show_pod" => pod_bytes(&mut maker, shape, length),
+        "show_force" => packets(&mut maker, shape, length),
+        "write_force" => reports(&mut maker, shape, length),
         "drive" => script(&mut maker, shape, length),
         "show_table" | "crane_table" | "write_frames" | "record" | "replay" if shape == 0 => {
             odd_setup(&mut maker, layout, turn)
@@ -215,6 +218,42 @@ fn pod_bytes(maker: &mut Maker, shape: u64, length: usize) -> Vec<u8> {
         pod.take(byte).expect("a pod that began fresh is well formed");
         bytes.push(byte);
     }
+    bytes
+}
+
+/// Bytes of a force stick, so many: plain, rich in 0x2B, or packets good and damaged.
+fn packets(maker: &mut Maker, shape: u64, length: usize) -> Vec<u8> {
+    let mut bytes = Vec::new();
+    while bytes.len() < length {
+        match shape {
+            0 => bytes.push(maker.random.word() as u8),
+            1 => bytes.push(maker.random.pick(&[START, START, OP, LEN, 0, 16, 17, 0x23])),
+            2 => bytes.extend(maker.force().packet().expect("a good report")),
+            _ => bytes.extend(maker.force_part()),
+        }
+    }
+    bytes.truncate(length);
+    bytes
+}
+
+/// Reports for `write_force`, so many bytes: plain, which are mostly refused, or good but for a few.
+fn reports(maker: &mut Maker, shape: u64, length: usize) -> Vec<u8> {
+    if shape == 0 {
+        return plain(maker, length);
+    }
+    let mut bytes = Vec::new();
+    while bytes.len() < length {
+        let mut force = maker.force();
+        if shape == 3 && maker.random.once_in(6) {
+            force.buttons += maker.random.pick(&[0, 1 << 12, 1 << 15]);
+            force.hat += maker.random.pick(&[0, 16, 240]);
+        }
+        bytes.extend([force.x, force.y].iter().flat_map(|number| number.to_le_bytes()));
+        bytes.push(force.throttle);
+        bytes.extend(force.buttons.to_le_bytes());
+        bytes.extend([force.hat, force.rudder as u8]);
+    }
+    bytes.truncate(length);
     bytes
 }
 

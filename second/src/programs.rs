@@ -1,7 +1,9 @@
-//! The programs of docs/PROGRAMS.md as filters: `show_table`, `crane_table`, `write_frames`, `show_pod` and `drive` here, the recorder's in a file of their own.
+//! The programs of docs/PROGRAMS.md as filters: `show_table`, `crane_table`, `write_frames`, `show_pod` and `drive` here, the recorder's and the force stick's in files of their own.
 
+mod force;
 mod recording;
 
+pub use force::{show_force, write_force, REPORT};
 pub use recording::{record, replay};
 
 use std::io::{self, Read, Write};
@@ -24,7 +26,8 @@ pub const HEADER: usize = (1 + NUMBERS) * NUMBER;
 pub const ROW: usize = SLOT_NUMBERS * NUMBER;
 
 /// The names that [`run`] takes.
-pub const NAMES: [&str; 7] = ["show_table", "crane_table", "write_frames", "show_pod", "record", "replay", "drive"];
+pub const NAMES: [&str; 9] =
+    ["show_table", "crane_table", "write_frames", "show_pod", "record", "replay", "show_force", "write_force", "drive"];
 
 /// What a setup's largest values are called, in their order.
 const LARGEST: [&str; NUMBERS] =
@@ -39,6 +42,8 @@ pub fn run(name: &str, input: impl Read, out: impl Write, err: impl Write) -> Op
         "show_pod" => show_pod(input, out, err),
         "record" => record(input, out, err),
         "replay" => replay(input, out, err),
+        "show_force" => show_force(input, out, err),
+        "write_force" => write_force(input, out, err),
         "drive" => drive(input, out, err),
         _ => return None,
     })

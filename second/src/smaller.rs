@@ -1,11 +1,12 @@
 //! Smaller calls than one that was answered differently: what is tried to find the shortest script that shows a difference.
 
 use crate::events::{events, Event, ABS_MT_SLOT, EV_ABS, RECORD};
+use crate::force::Force;
 use crate::pieces::PieceReader;
 use crate::pod::Pod;
 use crate::reader::{Mode, Reader};
 use crate::recorder::{put_check, BLOCK};
-use crate::script::{Call, Cut, RecorderCall};
+use crate::script::{Call, Cut, ForceCall, RecorderCall};
 use crate::table::{Setup, Slot, SlotNumber, Table, SLOTS, SLOT_NUMBERS};
 use crate::writer::Writer;
 
@@ -40,7 +41,7 @@ fn weight_of(call: &Call) -> (usize, usize, u64, usize) {
     let words = || line.split(' ').skip(1);
     let (size, slots) = match call {
         Call::Write { size, writer, .. } => (*size, writer.setup.slots),
-        Call::Recorder(RecorderCall::Lay { size, .. }) => (*size, 0),
+        Call::Recorder(RecorderCall::Lay { size, .. }) | Call::Force(ForceCall::Write { size, .. }) => (*size, 0),
         _ => {
             let reader = call.pieces().map(|pieces| &pieces.reader).or(call.reader());
             (0, reader.map_or(0, |reader| reader.setup.slots))
@@ -85,6 +86,37 @@ fn candidates(call: &Call, give: &mut dyn FnMut(Call)) {
         }
         Call::Load { reader, current, image } => smaller_loads(reader, *current, image, give),
         Call::Recorder(call) => smaller_recordings(call, &mut |call| give(Call::Recorder(call))),
+        Call::Force(call) => smaller_packets(call, &mut |call| give(Call::Force(call))),
+    }
+}
+
+/// Fewer bytes, from their start, or one of them 0; a report with a number that is 0, or less room.
+fn smaller_packets(call: &ForceCall, give: &mut dyn FnMut(ForceCall)) {
+    match call {
+        ForceCall::Read { position, bytes } => {
+            give(ForceCall::Read { position: 0, bytes: bytes.clone() });
+            fewer_bytes(bytes, 1, &mut |bytes| give(ForceCall::Read { position: *position, bytes }));
+            for i in 0..bytes.len() {
+                let mut bytes = bytes.clone();
+                bytes[i] = 0;
+                give(ForceCall::Read { position: *position, bytes });
+            }
+        }
+        ForceCall::Write { force, position, size } => {
+            smaller_place(*position, *size, &mut |position, size| {
+                give(ForceCall::Write { force: *force, position, size });
+            });
+            for force in [
+                Force { x: 0, ..*force },
+                Force { y: 0, ..*force },
+                Force { throttle: 0, ..*force },
+                Force { buttons: 0, ..*force },
+                Force { hat: 0, ..*force },
+                Force { rudder: 0, ..*force },
+            ] {
+                give(ForceCall::Write { force, position: *position, size: *size });
+            }
+        }
     }
 }
 

@@ -6,7 +6,8 @@ use std::process::{Command, Output, Stdio};
 use std::sync::{Mutex, MutexGuard, PoisonError};
 
 const SETUP: [u8; 24] = [1, 0, 0, 0, 9, 0, 0, 0, 9, 0, 0, 0, 9, 0, 0, 0, 9, 0, 0, 0, 9, 0, 0, 0];
-const PROGRAMS: [&str; 7] = ["show_table", "crane_table", "write_frames", "show_pod", "record", "replay", "drive"];
+const PROGRAMS: [&str; 9] =
+    ["show_table", "crane_table", "write_frames", "show_pod", "record", "replay", "show_force", "write_force", "drive"];
 
 /// Tests take turns: a process that another one has just begun still holds the pipes of this one, and a closed one would not be closed.
 fn turn() -> MutexGuard<'static, ()> {
@@ -49,6 +50,13 @@ fn accepted_and_refused() {
     assert_eq!(run("write_frames", &frame(1)), Some(0));
     assert_eq!(run("write_frames", &frame(3)), Some(1));
     assert_eq!(run("show_pod", &[0, 0xF7]), Some(0));
+    assert_eq!(run("show_force", &[0, 43, 2, 0, 41]), Some(0));
+    for refused in [&[43][..], &[43, 1, 17], &[43, 2, 0, 40]] {
+        assert_eq!(run("show_force", refused), Some(1));
+    }
+    assert_eq!(run("write_force", &[0; 18]), Some(0));
+    assert_eq!(run("write_force", &[255; 9]), Some(1));
+    assert_eq!(run("write_force", &[0; 10]), Some(1));
     for name in ["drive", "answer"] {
         assert_eq!(run(name, b"start\nfresh 0 1 1 1 1 1\n"), Some(0));
         assert_eq!(run(name, b"start\nstop\nstart\n"), Some(1));
@@ -82,6 +90,8 @@ fn failed_reads() {
         (&["replay"], format!("replay: {failed}replay: the setup is cut: 0 of 24 bytes\n")),
         (&["crane_table"], format!("crane_table: {failed}crane_table: the setup is cut: 0 of 24 bytes\n")),
         (&["show_pod"], format!("show_pod: {failed}")),
+        (&["show_force"], format!("show_force: {failed}")),
+        (&["write_force"], format!("write_force: {failed}write_force: input was lost, and no packet can say so\n")),
         (&["drive"], format!("drive: {failed}")),
         (&["records", "encode"], format!("second: {failed}")),
         (&["records", "decode"], format!("second: {failed}")),
@@ -100,6 +110,8 @@ fn failed_writes() {
         (&["write_frames"], "write_frames", &SETUP),
         (&["show_pod"], "show_pod", &[1]),
         (&["record"], "record", &SETUP),
+        (&["show_force"], "show_force", &[43]),
+        (&["write_force"], "write_force", &[0; 9]),
         (&["replay"], "replay", &SETUP),
         (&["drive"], "drive", b"start\n"),
         (&["records", "encode"], "second", b"REPORT\n"),

@@ -1,8 +1,4 @@
 // The calls of the cranes' reader: states made of a line's numbers, and answers as numbers. As for the product's reader, in four numbers a slot.
-use crate::calls::CRANE_READER;
-use crate::calls::CRANE_SETUP;
-use crate::calls::CRANE_TABLE;
-use crate::calls::NUMBERS;
 use crate::say;
 use crate::states;
 use common::SlotNumber;
@@ -14,15 +10,21 @@ use crane_panel::Slot;
 use crane_reader::ReaderState;
 use crane_reader::RunAnswer;
 use crane_reader::SlotAnswer;
+use drive_devices::parts;
+use drive_lines::calls::CRANE_READER;
+use drive_lines::calls::CRANE_SETUP;
+use drive_lines::calls::CRANE_TABLE;
+use drive_lines::calls::NUMBERS;
+use drive_lines::values;
 use stream::Out;
 ghost use Prim.Native.Nat.{_≤_};
 
 fn setup_of(ns: &[u64]) -> Setup {
     Setup {
-        n: states::number(ns, 0) as usize,
-        x: states::natural(ns, 1),
-        y: states::natural(ns, 2),
-        pressure: states::natural(ns, 3),
+        n: values::number(ns, 0) as usize,
+        x: values::natural(ns, 1),
+        y: values::natural(ns, 2),
+        pressure: values::natural(ns, 3),
     }
 }
 
@@ -30,10 +32,10 @@ fn slot_of(ns: &[u64], at: usize) -> Slot
     requires { ⌜ at ≤ 12000 ⌝ }
 {
     Slot {
-        id: TrackingId(states::signed(ns, at)),
-        x: states::natural(ns, at + 1),
-        y: states::natural(ns, at + 2),
-        pressure: states::natural(ns, at + 3),
+        id: TrackingId(values::signed(ns, at)),
+        x: values::natural(ns, at + 1),
+        y: values::natural(ns, at + 2),
+        pressure: values::natural(ns, at + 3),
     }
 }
 
@@ -55,13 +57,13 @@ fn reader_of(ns: &[u64]) -> ReaderState {
         setup: setup_of(ns),
         shown: table_of(ns, CRANE_SETUP + 2),
         pending: table_of(ns, CRANE_SETUP + 2 + CRANE_TABLE),
-        current: SlotNumber(states::number(ns, CRANE_SETUP) as usize),
-        mode: states::mode_of(states::number(ns, CRANE_SETUP + 1)),
+        current: SlotNumber(values::number(ns, CRANE_SETUP) as usize),
+        mode: states::mode_of(values::number(ns, CRANE_SETUP + 1)),
     }
 }
 
 fn say_setup(page: &mut [u8], out: Out, s: Setup) -> Out {
-    let a = say::number(page, out, s.n);
+    let a = parts::number(page, out, s.n);
     say_three(page, a, s.x, s.y, s.pressure)
 }
 
@@ -96,7 +98,7 @@ fn say_reader(page: &mut [u8], out: Out, s: ReaderState) -> Out {
     let shown = s.shown;
     let pending = s.pending;
     let a = say_setup(page, out, u);
-    let b = say::number(page, a, current.0);
+    let b = parts::number(page, a, current.0);
     let c = say::mode(page, b, m);
     let d = say_table(page, c, shown);
     say_table(page, d, pending)
@@ -107,7 +109,7 @@ pub fn fresh(page: &mut [u8], out: Out, ns: &[u64]) -> Out {
     let a = ReaderState::fresh(s.n, s.x, s.y, s.pressure);
     let verdict = a.verdict;
     let state = a.state;
-    let o = say::verdict(page, out, verdict);
+    let o = parts::verdict(page, out, verdict);
     say_reader(page, o, state)
 }
 
@@ -115,34 +117,34 @@ fn ran(page: &mut [u8], out: Out, a: RunAnswer) -> Out {
     let verdict = a.verdict;
     let state = a.state;
     let counts = a.counts;
-    let o = say::verdict(page, out, verdict);
+    let o = parts::verdict(page, out, verdict);
     let p = say_reader(page, o, state);
     say::counts(page, p, counts)
 }
 
 pub fn run(page: &mut [u8], out: Out, ns: &[u64]) -> Out {
     let mut bytes = [0u8; NUMBERS];
-    let count = states::bytes_of(ns, CRANE_READER, &mut bytes);
+    let count = values::bytes_of(ns, CRANE_READER, &mut bytes);
     ran(page, out, crane_reader::run(reader_of(ns), &bytes[..count]))
 }
 
 pub fn one(page: &mut [u8], out: Out, ns: &[u64]) -> Out {
     let e = records::Event {
-        kind: states::half(ns, CRANE_READER),
-        code: states::half(ns, CRANE_READER + 1),
-        value: states::natural(ns, CRANE_READER + 2),
+        kind: values::half(ns, CRANE_READER),
+        code: values::half(ns, CRANE_READER + 1),
+        value: values::natural(ns, CRANE_READER + 2),
     };
     ran(page, out, crane_reader::read_one(reader_of(ns), e))
 }
 
 pub fn load(page: &mut [u8], out: Out, ns: &[u64]) -> Out {
     let mut image = [0i32; NUMBERS];
-    let count = states::frame_of(ns, CRANE_READER + 1, &mut image);
-    let current = SlotNumber(states::number(ns, CRANE_READER) as usize);
+    let count = values::frame_of(ns, CRANE_READER + 1, &mut image);
+    let current = SlotNumber(values::number(ns, CRANE_READER) as usize);
     let a = crane_reader::load(reader_of(ns), &image[..count], current);
     let verdict = a.verdict;
     let state = a.state;
-    let o = say::verdict(page, out, verdict);
+    let o = parts::verdict(page, out, verdict);
     say_reader(page, o, state)
 }
 
@@ -162,7 +164,7 @@ fn say_answer(page: &mut [u8], out: Out, a: SlotAnswer) -> Out {
 }
 
 pub fn ask(page: &mut [u8], out: Out, ns: &[u64]) -> Out {
-    let slot = SlotNumber(states::number(ns, CRANE_READER) as usize);
+    let slot = SlotNumber(values::number(ns, CRANE_READER) as usize);
     say_answer(page, out, crane_reader::ask(reader_of(ns), slot))
 }
 

@@ -1,11 +1,13 @@
 // The calls of a reader of pieces (K5): a string of bytes with the lengths of the pieces that it is cut into, states made of a line's numbers, and answers as numbers.
-use crate::calls::Call;
-use crate::calls::NUMBERS;
-use crate::calls::PIECES;
-use crate::calls::READER;
 use crate::say;
 use crate::states;
 use common::SlotNumber;
+use drive_devices::parts;
+use drive_lines::calls::Call;
+use drive_lines::calls::NUMBERS;
+use drive_lines::calls::PIECES;
+use drive_lines::calls::READER;
+use drive_lines::values;
 use pieces::LineState;
 use pieces::TakeAnswer;
 use stream::Out;
@@ -17,7 +19,7 @@ fn length_of(ns: &[u64], from: usize, to: usize) -> u64 {
     let mut sum: u64 = 0;
     let mut i = from;
     while i < to {
-        let n = states::number(ns, i);
+        let n = values::number(ns, i);
         i += 1;
         if n > most {
             return u64::MAX;
@@ -42,7 +44,7 @@ fn are_bytes(ns: &[u64], from: usize) -> bool {
 fn count_of(ns: &[u64]) -> usize
     ensures { λ r. ⌜ r ≤ 12000 ⌝ }
 {
-    let count = states::number(ns, PIECES);
+    let count = values::number(ns, PIECES);
     if count > NUMBERS as u64 {
         return 0;
     }
@@ -76,15 +78,15 @@ pub fn together(call: Call, ns: &[u64]) -> bool {
 fn state_of(ns: &[u64]) -> LineState {
     LineState {
         left: [
-            states::byte(ns, READER + 1),
-            states::byte(ns, READER + 2),
-            states::byte(ns, READER + 3),
-            states::byte(ns, READER + 4),
-            states::byte(ns, READER + 5),
-            states::byte(ns, READER + 6),
-            states::byte(ns, READER + 7),
+            values::byte(ns, READER + 1),
+            values::byte(ns, READER + 2),
+            values::byte(ns, READER + 3),
+            values::byte(ns, READER + 4),
+            values::byte(ns, READER + 5),
+            values::byte(ns, READER + 6),
+            values::byte(ns, READER + 7),
         ],
-        count: states::number(ns, READER) as usize,
+        count: values::number(ns, READER) as usize,
         reader: states::reader_of(ns),
     }
 }
@@ -93,7 +95,7 @@ fn say_state(page: &mut [u8], out: Out, s: LineState) -> Out {
     let reader = s.reader;
     let left = s.left;
     let a = say::reader_state(page, out, reader);
-    let b = say::number(page, a, s.count);
+    let b = parts::number(page, a, s.count);
     words::say_bytes(page, b, &left)
 }
 
@@ -102,7 +104,7 @@ pub fn fresh(page: &mut [u8], out: Out, ns: &[u64]) -> Out {
     let a = LineState::fresh(s.n, s.x, s.y, s.pressure, s.major, s.minor);
     let verdict = a.verdict;
     let state = a.state;
-    let o = say::verdict(page, out, verdict);
+    let o = parts::verdict(page, out, verdict);
     say_state(page, o, state)
 }
 
@@ -117,7 +119,7 @@ fn say_taken(page: &mut [u8], out: Out, a: TakeAnswer) -> Out {
     let verdict = a.verdict;
     let state = a.state;
     let counts = a.counts;
-    let o = say::verdict(page, out, verdict);
+    let o = parts::verdict(page, out, verdict);
     let p = say_state(page, o, state);
     say::counts(page, p, counts)
 }
@@ -128,7 +130,7 @@ fn step(page: &mut [u8], t: Taken, ns: &[u64], i: usize, bytes: &[u8], between: 
     let before = t.out;
     let at = stream::within(t.at, bytes);
     let rest = &bytes[at..];
-    let k = stream::within(states::number(ns, i) as usize, rest);
+    let k = stream::within(values::number(ns, i) as usize, rest);
     let a = pieces::take(state, &rest[..k]);
     let next = a.state;
     let o = stream::say(page, before, between);
@@ -152,7 +154,7 @@ fn other_pieces(page: &mut [u8], first: Taken, ns: &[u64], bytes: &[u8]) -> Out 
 
 pub fn take(page: &mut [u8], out: Out, ns: &[u64]) -> Out {
     let mut bytes = [0u8; NUMBERS];
-    let count = states::bytes_of(ns, PIECES + 1 + count_of(ns), &mut bytes);
+    let count = values::bytes_of(ns, PIECES + 1 + count_of(ns), &mut bytes);
     let begun = Taken {
         state: state_of(ns),
         out,
@@ -164,16 +166,16 @@ pub fn take(page: &mut [u8], out: Out, ns: &[u64]) -> Out {
 
 pub fn load(page: &mut [u8], out: Out, ns: &[u64]) -> Out {
     let mut image = [0i32; NUMBERS];
-    let count = states::frame_of(ns, PIECES + 1, &mut image);
-    let current = SlotNumber(states::number(ns, PIECES) as usize);
+    let count = values::frame_of(ns, PIECES + 1, &mut image);
+    let current = SlotNumber(values::number(ns, PIECES) as usize);
     let a = pieces::load(state_of(ns), &image[..count], current);
     let verdict = a.verdict;
     let state = a.state;
-    let o = say::verdict(page, out, verdict);
+    let o = parts::verdict(page, out, verdict);
     say_state(page, o, state)
 }
 
 pub fn ask(page: &mut [u8], out: Out, ns: &[u64]) -> Out {
-    let slot = SlotNumber(states::number(ns, PIECES) as usize);
+    let slot = SlotNumber(values::number(ns, PIECES) as usize);
     say::slot_answer(page, out, pieces::ask(state_of(ns), slot))
 }

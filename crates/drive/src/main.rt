@@ -1,13 +1,12 @@
 // Makes each call of a script on the proved library and prints every part of its answer: docs/DRIVE.md. What an independent program is compared through.
 mod answers;
-mod blocks;
-mod calls;
 mod crane;
 mod cut;
-mod numbers;
 mod say;
 mod states;
 
+use drive_lines::calls;
+use drive_lines::numbers;
 use stream::Out;
 
 const NEWLINE: u8 = 10;

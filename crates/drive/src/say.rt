@@ -1,28 +1,19 @@
-// States and answers as runs of numbers on the page, in the order that the script's lines have them, each number after a blank.
+// A panel's states and answers as runs of numbers on the page, in the order that the script's lines have them, each number after a blank.
 use common::Counts;
 use common::FirstSkipped;
 use common::Mode;
 use common::Verdict;
+use drive_devices::parts;
 use panel::RECORDS;
 use panel::Setup;
 use panel::Slot;
-use pod::PodState;
 use reader::ReaderState;
 use reader::SlotAnswer;
 use stream::Out;
 use writer::WriterState;
 
-// An answer's first number.
-pub fn verdict(page: &mut [u8], out: Out, v: Verdict) -> Out {
-    stream::say_number(page, out, v.number() as u64)
-}
-
-pub fn number(page: &mut [u8], out: Out, n: usize) -> Out {
-    words::say_number(page, out, n as u64)
-}
-
 fn setup(page: &mut [u8], out: Out, s: Setup) -> Out {
-    let a = number(page, out, s.n);
+    let a = parts::number(page, out, s.n);
     words::say_largest(page, a, s)
 }
 
@@ -45,7 +36,7 @@ pub fn reader_state(page: &mut [u8], out: Out, s: ReaderState) -> Out {
     let shown = s.shown;
     let pending = s.pending;
     let a = setup(page, out, u);
-    let b = number(page, a, current.0);
+    let b = parts::number(page, a, current.0);
     let c = mode(page, b, m);
     let d = table(page, c, shown);
     table(page, d, pending)
@@ -56,42 +47,27 @@ pub fn writer_state(page: &mut [u8], out: Out, s: WriterState) -> Out {
     let current = s.current;
     let t = s.table;
     let a = setup(page, out, u);
-    let b = number(page, a, current.0);
+    let b = parts::number(page, a, current.0);
     let c = words::say_number(page, b, s.counter as u64);
     table(page, c, t)
-}
-
-// It begins its line.
-fn wait(page: &mut [u8], out: Out, waits: bool) -> Out {
-    if waits {
-        return stream::say(page, out, b"1");
-    }
-    stream::say(page, out, b"0")
-}
-
-pub fn pod_state(page: &mut [u8], out: Out, s: PodState) -> Out {
-    let bytes = s.bytes;
-    let a = wait(page, out, s.waits);
-    let b = number(page, a, s.count);
-    words::say_bytes(page, b, &bytes)
 }
 
 fn first(page: &mut [u8], out: Out, f: FirstSkipped) -> Out {
     match f {
         FirstSkipped::None => stream::say(page, out, b" none"),
         FirstSkipped::Event(kind, code) => {
-            let a = number(page, out, kind as usize);
-            number(page, a, code as usize)
+            let a = parts::number(page, out, kind as usize);
+            parts::number(page, a, code as usize)
         }
     }
 }
 
 pub fn counts(page: &mut [u8], out: Out, c: Counts) -> Out {
-    let a = number(page, out, c.shown);
-    let b = number(page, a, c.types);
-    let d = number(page, b, c.codes);
-    let e = number(page, d, c.bad);
-    let f = number(page, e, c.ignored);
+    let a = parts::number(page, out, c.shown);
+    let b = parts::number(page, a, c.types);
+    let d = parts::number(page, b, c.codes);
+    let e = parts::number(page, d, c.bad);
+    let f = parts::number(page, e, c.ignored);
     let skipped = c.first;
     first(page, f, skipped)
 }
@@ -113,10 +89,4 @@ pub fn slot_answer(page: &mut [u8], out: Out, a: SlotAnswer) -> Out {
         SlotAnswer::NoSuchSlot => stream::say(page, out, b"none"),
         SlotAnswer::Refused(v) => refused(page, out, v),
     }
-}
-
-// A buffer's bytes behind an answer's numbers.
-pub fn buffer(page: &mut [u8], out: Out, bytes: &[u8]) -> Out {
-    let a = stream::say(page, out, b" :");
-    words::say_bytes(page, a, bytes)
 }

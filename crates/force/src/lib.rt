@@ -1,5 +1,6 @@
 // The force stick on the serial port, 02's K10: I-Force packets read from a lent slice, and a stick's report written into a lent buffer. Called
-// by programs and by a host; `read` and `write` are the public functions, neither requires anything, and what they answer is the model's.
+// by programs and by a host; `read` and `write` are the calls, neither requires anything, and what they answer is the model's. `join`, `word_of`
+// and `signed_byte` are for a program that has a report's bytes in another order.
 ghost use mathlib.Core.Path.{_≡_};
 ghost use mathlib.Core.Bool.{true, _&&_};
 ghost use Prim.Native.Nat.{_≤_};
@@ -30,9 +31,9 @@ pub const LENGTH: usize = 12;
 
 const CHECK: usize = 11;
 
-const MOST_BUTTONS: u16 = 4095;
+pub const MOST_BUTTONS: u16 = 4095;
 
-const MOST_HAT: u8 = 15;
+pub const MOST_HAT: u8 = 15;
 
 pub struct Report {
     pub x: i16,
@@ -75,7 +76,7 @@ fn check_of(bytes: &[u8]) -> u8
     sum
 }
 
-fn join(low: u8, high: u8) -> u16
+pub fn join(low: u8, high: u8) -> u16
     ensures { λ r. ⌜ r ≡ join16 low high ⌝ }
 {
     (low as u16) + 256 * (high as u16)
@@ -91,7 +92,7 @@ fn signed_word(v: u16) -> i16
     !((0xffff - v) as i16)
 }
 
-fn signed_byte(v: u8) -> i8
+pub fn signed_byte(v: u8) -> i8
     ensures { λ r. ⌜ r ≡ signedIn byteValues v ⌝ }
 {
     if v < 0x80 {
@@ -100,7 +101,7 @@ fn signed_byte(v: u8) -> i8
     !((0xff - v) as i8)
 }
 
-fn word_of(low: u8, high: u8) -> i16
+pub fn word_of(low: u8, high: u8) -> i16
     ensures { λ r. ⌜ r ≡ signedIn wordValues (join16 low high) ⌝ }
 {
     signed_word(join(low, high))

@@ -112,6 +112,22 @@ pub fn within(count: usize, buf: &[u8]) -> usize
     count
 }
 
+// Moves `count` bytes from the place `from` on to the front of a buffer, before a read behind them; how many there are now: none where the buffer has not so many.
+pub fn keep(buf: &mut [u8], from: usize, count: usize) -> usize {
+    if from > buf.len() {
+        return 0;
+    }
+    if count > buf.len() - from {
+        return 0;
+    }
+    let mut i: usize = 0;
+    while i < count {
+        buf[i] = buf[from + i];
+        i += 1;
+    }
+    count
+}
+
 // Writes what is held. What comes after a hole is worse than nothing, so a failed write is the last.
 pub fn flush(page: &[u8], out: Out) -> Out {
     if out.broken {

@@ -23,7 +23,8 @@ fn wide(v: i8) -> i32 {
     v as i32
 }
 
-fn say_signed(page: &mut [u8], out: Out, v: i8) -> Out {
+// A signed number after a blank.
+pub fn say_signed(page: &mut [u8], out: Out, v: i8) -> Out {
     let a = stream::say(page, out, b" ");
     stream::say_signed(page, a, wide(v))
 }

@@ -121,22 +121,6 @@ fn send_frames(page: &mut [u8], s: Sending, bytes: &[u8], want: usize) -> Sendin
     Sending { state, out, frame }
 }
 
-// Moves the bytes of a frame that is not whole yet to the front.
-fn keep(buf: &mut [u8], from: usize, count: usize) -> usize {
-    if from > buf.len() {
-        return 0;
-    }
-    if count > buf.len() - from {
-        return 0;
-    }
-    let mut i: usize = 0;
-    while i < count {
-        buf[i] = buf[from + i];
-        i += 1;
-    }
-    count
-}
-
 // Nobody knows what was lost with the input, so a reader must not go on with the old table.
 fn lose(page: &mut [u8], s: Sending) -> Sending {
     let state = s.state;
@@ -203,7 +187,7 @@ fn take(page: &mut [u8], s: Sending, buf: &mut [u8], total: usize, want: usize) 
         };
     }
     let rest = count % want;
-    let held = keep(buf, count - rest, rest);
+    let held = stream::keep(buf, count - rest, rest);
     let sending = flushed(page, sent);
     Turn {
         sending,

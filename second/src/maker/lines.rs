@@ -2,7 +2,9 @@
 
 use super::Maker;
 use crate::script::{head_numbers, reader_numbers, setup_numbers};
-use crate::script::{Call, RecorderCall, CRANE, PIECES, PIECES_NUMBERS, POD_NUMBERS, RECORDER, WRITER_NUMBERS};
+use crate::script::{
+    Call, ForceCall, RecorderCall, CRANE, FORCE, PIECES, PIECES_NUMBERS, POD_NUMBERS, RECORDER, WRITER_NUMBERS,
+};
 use crate::table::Layout;
 
 /// Numbers that a type cannot hold: the next ones outside, and such as would be cut to good ones.
@@ -11,6 +13,8 @@ const NO_64_BITS: Outside = &["-1", "18446744073709551616", "1844674407370955161
 const NO_32_BITS: Outside = &["-1", "4294967296", "4294967297", "18446744073709551616"];
 const NO_SIGNED_32: Outside = &["2147483648", "-2147483649", "4294967295", "-4294967296"];
 const NO_16_BITS: Outside = &["65536", "-1", "65539"];
+const NO_SIGNED_16: Outside = &["32768", "-32769", "65535", "-65536"];
+const NO_SIGNED_BYTE: Outside = &["128", "-129", "255", "-256"];
 const NO_BYTE: Outside = &["256", "-1", "257"];
 const NO_MODE: Outside = &["3", "3", "-1", "256", "4294967296"];
 const NO_WAITS: Outside = &["2", "2", "3", "-1", "256", "257", "4294967296", "4294967297"];
@@ -143,6 +147,9 @@ impl Maker {
         if let Some(name) = name.strip_prefix(RECORDER) {
             return self.random.pick(&["record_", "recorder", "recorder-", "crane_recorder_", ""]).to_string() + name;
         }
+        if let Some(name) = name.strip_prefix(FORCE) {
+            return self.random.pick(&["forces_", "force", "force-", "pieces_", ""]).to_string() + name;
+        }
         match (call.layout(), name.strip_prefix(CRANE)) {
             (None, _) => format!("{CRANE}{name}"),
             (_, Some(name)) => {
@@ -188,7 +195,7 @@ impl Maker {
         let layout = call.layout().unwrap_or(Layout::Panel);
         let setup = (1..=setup_numbers(layout)).map(|place| (place, if place == 1 { NO_64_BITS } else { NO_32_BITS }));
         let (tables, last_of_head) = match call {
-            Call::Start | Call::Pod { .. } | Call::Recorder(_) => return Vec::new(),
+            Call::Start | Call::Pod { .. } | Call::Recorder(_) | Call::Force(_) => return Vec::new(),
             Call::Fresh(..) | Call::New(_) | Call::PiecesFresh(_) => return setup.collect(),
             Call::Write { .. } => (1, vec![NO_32_BITS]),
             _ => (2, vec![NO_MODE, NO_MODE]),
@@ -230,6 +237,7 @@ impl Maker {
                 [&room[..], &room, &frame].concat()
             }
             Call::Recorder(call) => recorder_places(call, last),
+            Call::Force(call) => force_places(call, last),
             _ => Vec::new(),
         }
     }
@@ -249,7 +257,21 @@ fn fixed(call: &Call) -> usize {
         Call::Run { .. } | Call::Good { .. } => reader_numbers(layout),
         Call::Write { .. } => WRITER_NUMBERS + 2,
         Call::Recorder(RecorderCall::Lay { .. }) => 3,
-        Call::Recorder(_) => 1,
+        Call::Recorder(_) | Call::Force(ForceCall::Read { .. }) => 1,
+        Call::Force(ForceCall::Write { .. }) => 8,
+    }
+}
+
+/// Places of a force stick's call, and what their types cannot hold.
+fn force_places(call: &ForceCall, last: usize) -> Vec<(usize, Outside)> {
+    match call {
+        ForceCall::Read { bytes, .. } if bytes.is_empty() => vec![(1, NO_64_BITS)],
+        ForceCall::Read { .. } => vec![(1, NO_64_BITS), (last, NO_BYTE)],
+        ForceCall::Write { .. } => {
+            let signed = [(1, NO_SIGNED_16), (2, NO_SIGNED_16), (6, NO_SIGNED_BYTE)];
+            let others = [(3, NO_BYTE), (4, NO_16_BITS), (5, NO_BYTE), (7, NO_64_BITS), (8, NO_SIZE)];
+            signed.into_iter().chain(others).collect()
+        }
     }
 }
 
@@ -268,7 +290,8 @@ fn recorder_places(call: &RecorderCall, last: usize) -> Vec<(usize, Outside)> {
 /// Whether more numbers than that make it another call and no bad line.
 pub(super) fn takes_any_count(call: &Call) -> bool {
     let is_load = matches!(call, Call::Load { .. } | Call::PiecesLoad { .. });
-    is_load || matches!(call, Call::Run { .. } | Call::Write { .. } | Call::Pod { .. } | Call::Recorder(_))
+    let is_bytes = matches!(call, Call::Recorder(_) | Call::Force(ForceCall::Read { .. }));
+    is_load || is_bytes || matches!(call, Call::Run { .. } | Call::Write { .. } | Call::Pod { .. })
 }
 
 /// A word that begins as the call's does.
@@ -291,6 +314,8 @@ fn other_word(call: &Call) -> String {
         Call::Recorder(RecorderCall::Block { .. }) => "recorder_blow",
         Call::Recorder(RecorderCall::Lay { .. }) => "recorder_load",
         Call::Recorder(RecorderCall::Read { .. }) => "recorder_run",
+        Call::Force(ForceCall::Read { .. }) => "force_ready",
+        Call::Force(ForceCall::Write { .. }) => "force_wrote",
     };
     let prefix = if call.layout() == Some(Layout::Crane) { CRANE } else { "" };
     format!("{prefix}{word}")

@@ -2,6 +2,7 @@
 
 mod broken;
 mod events;
+mod force;
 mod forms;
 mod ids;
 mod lines;
@@ -124,6 +125,7 @@ impl Maker {
     fn later_call(&mut self, request: Request) -> Call {
         match request {
             Request::Recorder => Call::Recorder(self.recorder_call()),
+            Request::Force => Call::Force(self.force_call()),
         }
     }
 

@@ -177,10 +177,30 @@ const RECORDER: &[&str] = &[
     "recorder: a piece too long",
 ];
 
+/// What is tried with the force stick.
+const FORCE: &[&str] = &[
+    "force: a report",
+    "force: not for us",
+    "force: a report's OP with another LEN",
+    "force: length over 16",
+    "force: wrong check",
+    "force: a packet inside a refused one",
+    "force: bytes before a packet",
+    "force: many 2B",
+    "force: bytes cut",
+    "force: from the middle",
+    "force: at the end",
+    "force: past the end",
+    "force: position near 2^64",
+    "force: buttons over 4,095",
+    "force: hat over 15",
+];
+
 /// What is tried with a request that `drive` did not always know.
 fn later(request: Request) -> &'static [&'static str] {
     match request {
         Request::Recorder => RECORDER,
+        Request::Force => FORCE,
     }
 }
 

@@ -53,6 +53,7 @@ impl Call {
             Call::Start => line.pod(&Pod::FRESH),
             Call::Pod { pod, bytes } => line.reports(*pod, bytes),
             Call::Recorder(call) => call.answer(&mut line),
+            Call::Force(call) => call.answer(&mut line),
         }
         line.text()
     }

@@ -1,6 +1,7 @@
 //! Scripts of calls in the format of docs/DRIVE.md: a line read, written, and answered.
 
 mod answers;
+mod force;
 mod line;
 mod numbers;
 mod recorder;
@@ -8,6 +9,7 @@ mod recorder;
 mod tests;
 
 pub use answers::InWords;
+pub use force::{ForceCall, FORCE};
 pub use recorder::{RecorderCall, RECORDER};
 
 use crate::events::Event;
@@ -81,6 +83,7 @@ pub enum Call {
     Start,
     Pod { pod: Pod, bytes: Vec<u8> },
     Recorder(RecorderCall),
+    Force(ForceCall),
 }
 
 /// A string of bytes and the lengths of the pieces that it is cut into, which together are its own.
@@ -152,6 +155,7 @@ impl Call {
             (Layout::Panel, _) if name.starts_with(RECORDER) => {
                 Call::Recorder(RecorderCall::parse(name, &mut numbers)?)
             }
+            (Layout::Panel, _) if name.starts_with(FORCE) => Call::Force(ForceCall::parse(name, &mut numbers)?),
             _ => numbers.reader_call(layout, name)?,
         };
         numbers.is_done().then_some(call)
@@ -205,6 +209,7 @@ impl Call {
             Call::Start => "start",
             Call::Pod { .. } => "pod",
             Call::Recorder(call) => call.name(),
+            Call::Force(call) => call.name(),
         };
         let prefix = if self.layout() == Some(Layout::Crane) { CRANE } else { "" };
         format!("{prefix}{name}")
@@ -221,7 +226,7 @@ impl Call {
             }
             Call::Write { writer, .. } => line.writer(writer),
             Call::Pod { pod, .. } => line.pod(pod),
-            Call::Start | Call::Recorder(_) => {}
+            Call::Start | Call::Recorder(_) | Call::Force(_) => {}
             Call::Run { reader, .. }
             | Call::One { reader, .. }
             | Call::Load { reader, .. }
@@ -256,6 +261,7 @@ impl Call {
                 line.all(frame);
             }
             Call::Recorder(call) => call.put(line),
+            Call::Force(call) => call.put(line),
             Call::Fresh(..) | Call::New(_) | Call::Good { .. } | Call::PiecesFresh(_) | Call::Start => {}
         }
     }

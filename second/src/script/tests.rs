@@ -142,7 +142,7 @@ fn blocks_made_laid_and_read() {
     assert_eq!(answer("recorder_block 1"), format!("4 :{}", " 0".repeat(512)));
     assert_eq!(answer("recorder_block 1 7"), format!("6 :{}", " 0".repeat(512)));
     assert_eq!(answer(&format!("recorder_lay 1 1 514 {event}")), format!("0 1 2 0 : 11 {block} 48"));
-    assert_eq!(answer(&format!("recorder_lay 1 0 3 {event}")), "5 0 0 512 : 11 48 85");
+    assert_eq!(answer(&format!("recorder_lay 1 0 3 {event}")), "5 0 1 512 : 11 48 85");
     assert_eq!(answer("recorder_lay 4294967295 0 1"), "0 0 4294967295 0 : 11");
     assert_eq!(answer("recorder_lay 0 0 1"), "4 0 0 0 : 11");
     assert_eq!(answer(&format!("recorder_read 1 {block}")), "0 8 1");
@@ -160,6 +160,40 @@ fn blocks_made_laid_and_read() {
         "recorder_read",
         "crane_recorder_read 1",
         "recorder_ 1",
+    ] {
+        assert_eq!(answer(line), BAD_LINE, "{line}");
+    }
+}
+
+#[test]
+fn packets_read_and_written() {
+    let packet = "43 1 8 1 0 254 255 3 164 101 249 25";
+    for (line, said) in [
+        (format!("force_read 0 7 {packet} 43"), "0 1 -2 3 1444 6 -7 13"),
+        ("force_read 0 43 2 0 41 7".to_string(), "1 2 0 4"),
+        ("force_read 0 7 43 1 17".to_string(), "2 2"),
+        ("force_read 0 43 2 0 40".to_string(), "3 1"),
+        ("force_read 0 7 43".to_string(), "4 1"),
+        ("force_read 1 43 7".to_string(), "5 2"),
+        ("force_read 18446744073709551615 43 7".to_string(), "5 2"),
+        ("force_write 0 0 0 4096 0 0 0 2".to_string(), "4 0 : 11 48"),
+        ("force_write 0 0 0 0 0 0 0 2".to_string(), "5 12 : 11 48"),
+    ] {
+        assert_eq!(answer(&line), said, "{line}");
+    }
+    assert_eq!(answer("force_write 1 -2 3 1444 6 -7 1 14"), format!("0 0 : 11 {packet} 236"));
+    for line in [
+        "force_read",
+        "force_read -1",
+        "force_read 0 256",
+        "force_write 0 0 0 0 0 0 0",
+        "force_write 0 0 0 0 0 0 0 4097",
+        "force_write 32768 0 0 0 0 0 0 0",
+        "force_write 0 0 -1 0 0 0 0 0",
+        "force_write 0 0 0 65536 0 0 0 0",
+        "force_write 0 0 0 0 256 0 0 0",
+        "force_write 0 0 0 0 0 128 0 0",
+        "force_write 0 0 0 0 0 0 0 0 0",
     ] {
         assert_eq!(answer(line), BAD_LINE, "{line}");
     }
@@ -217,7 +251,7 @@ fn lines_that_are_no_call() {
     }
 }
 
-const NAMES: [&str; 23] = [
+const NAMES: [&str; 25] = [
     "fresh",
     "new",
     "run",
@@ -241,6 +275,8 @@ const NAMES: [&str; 23] = [
     "recorder_block",
     "recorder_lay",
     "recorder_read",
+    "force_read",
+    "force_write",
 ];
 
 /// Numbers with which that name is a call.
@@ -260,7 +296,8 @@ fn numbers_for(name: &str) -> String {
         (_, "pod") => "0 0 0 0 0 0 0 1".to_string(),
         (_, "pieces_fresh") => "1 2 3 4 5 6".to_string(),
         (_, "pieces_take") => format!("{reader}0 0 0 0 0 0 0 0 2 1 0 9"),
-        (_, "recorder_block" | "recorder_read") => "1".to_string(),
+        (_, "recorder_block" | "recorder_read" | "force_read") => "1".to_string(),
+        (_, "force_write") => "0 0 0 0 0 0 0 12".to_string(),
         (_, "recorder_lay") => "1 0 0".to_string(),
         (_, "pieces_load" | "pieces_ask") => format!("{reader}0 0 0 0 0 0 0 0 0"),
         _ => String::new(),

@@ -208,10 +208,35 @@ const RECORDER: &[&str] = &[
     "recorder_read: wrong check, more bytes",
 ];
 
+/// Of the force stick: a report, not for us, length over 16, wrong check, unfinished, nothing; and what a written report is answered.
+const FORCE: &[&str] = &[
+    "force_read 0",
+    "force_read 1",
+    "force_read 2",
+    "force_read 3",
+    "force_read 4",
+    "force_read 5",
+    "force_read: a report behind other bytes",
+    "force_read: a report at the end",
+    "force_read: x below 0",
+    "force_read: rudder below 0",
+    "force_read: a report's OP is not for us",
+    "force_read: length 16",
+    "force_read: unfinished before its LEN",
+    "force_read: nothing past the end",
+    "force_write 0",
+    "force_write 4",
+    "force_write 5",
+    "force_write: refused for the buttons alone",
+    "force_write: refused for the hat alone",
+    "force_write: buttons of both bytes",
+];
+
 /// Of a request that `drive` did not always know.
 fn later(request: Request) -> &'static [&'static str] {
     match request {
         Request::Recorder => RECORDER,
+        Request::Force => FORCE,
     }
 }
 

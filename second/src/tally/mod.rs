@@ -1,6 +1,7 @@
 //! What a script and its answers showed: how often each verdict, mode, count and answer occurred, and what never did.
 
 mod expected;
+mod force;
 mod pieces;
 mod reading;
 mod recorder;
@@ -106,6 +107,7 @@ impl Tally {
             Call::Run { .. } | Call::One { .. } if verdict == "0" => self.count_run(&call, &said),
             Call::Write { writer, frame, .. } => self.count_write(writer, frame, &said),
             Call::Recorder(call) => self.count_recorder(call, &said),
+            Call::Force(call) => self.count_force(call, &said),
             _ => {}
         }
     }

@@ -2,6 +2,7 @@
 //!
 //! `cargo test --test mistakes -- --nocapture` prints after how many calls each is noticed.
 
+mod force;
 mod frames;
 mod gloves;
 mod headers;
@@ -185,6 +186,11 @@ fn of_recordings() {
     all_are_noticed("recorder", On::All, recorder::all());
 }
 
+#[test]
+fn of_force_sticks() {
+    all_are_noticed("force", On::All, force::all());
+}
+
 /// Without a mistake the ways to answer wrongly answer right; else what is noticed might be theirs.
 #[test]
 fn without_a_mistake_nothing_is_noticed() {
@@ -197,5 +203,6 @@ fn without_a_mistake_nothing_is_noticed() {
         slow_writer::writes("frames", |_| {}),
     ];
     right.extend(recorder::right());
+    right.extend(force::right());
     assert_eq!(noticed(&right, On::All, 4), vec![None; right.len()]);
 }

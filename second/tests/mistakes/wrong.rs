@@ -6,7 +6,7 @@ use second::pod::{Pod, Report};
 use second::reader::{Ran, Reader};
 use second::recorder::BLOCK;
 use second::refusal::Refusal;
-use second::script::{marks, reader_numbers, Call, InWords, RecorderCall, PIECES_NUMBERS, WRITER_NUMBERS};
+use second::script::{marks, reader_numbers, Call, ForceCall, InWords, RecorderCall, PIECES_NUMBERS, WRITER_NUMBERS};
 use second::table::SlotNumber;
 use second::writer::Writer;
 
@@ -185,6 +185,7 @@ fn verdict(answer: &str, call: &Call) -> (u8, Option<String>) {
     let need = match call {
         Call::Write { .. } => answer.split(' ').nth(WRITER_NUMBERS + 3).map(str::to_string),
         Call::Recorder(RecorderCall::Lay { .. }) => answer.split(' ').nth(3).map(str::to_string),
+        Call::Force(ForceCall::Write { .. }) => answer.split(' ').nth(1).map(str::to_string),
         _ => None,
     };
     (refusal(answer, call), need)
@@ -212,8 +213,11 @@ fn refused(call: &Call, number: u8) -> String {
         }
         Call::Start | Call::Pod { .. } => format!("refused {number}"),
         Call::Recorder(RecorderCall::Block { .. }) => format!("{number} :{}", " 0".repeat(BLOCK)),
-        Call::Recorder(RecorderCall::Lay { size, .. }) => format!("{number} 0 0 0 :{}", bytes_text(&marks(*size))),
-        Call::Recorder(RecorderCall::Read { .. }) => number.to_string(),
+        Call::Recorder(RecorderCall::Lay { number: next, size, .. }) => {
+            format!("{number} 0 {next} 0 :{}", bytes_text(&marks(*size)))
+        }
+        Call::Recorder(RecorderCall::Read { .. }) | Call::Force(ForceCall::Read { .. }) => number.to_string(),
+        Call::Force(ForceCall::Write { size, .. }) => format!("{number} 0 :{}", bytes_text(&marks(*size))),
     }
 }
 

@@ -1,5 +1,6 @@
 //! The programs held to docs/PROGRAMS.md: every word on both streams and the status, whole inputs and odd pieces, failed reads and writes.
 
+mod force;
 mod recording;
 mod tables;
 
@@ -141,6 +142,8 @@ fn a_failed_write_is_said_and_ends_the_program() {
         ("show_pod", vec![1; 20]),
         ("record", encoded("SETUP 1 9 9 9 9 9\nX 1\n")),
         ("replay", encoded("SETUP 1 9 9 9 9 9\n")),
+        ("show_force", [43, 2, 0, 41].repeat(8)),
+        ("write_force", vec![0; 63]),
         ("drive", b"start\nstart\nstart\n".to_vec()),
     ] {
         for room in (0..60).chain([500, 536]) {
@@ -179,6 +182,8 @@ fn long_inputs_are_answered_as_in_one_piece() {
         ("replay", answers("record", &records, usize::MAX, false).1),
         ("crane_table", records),
         ("write_frames", encoded(&("SETUP 5 9 9 9 9 9\n".to_string() + &frame.repeat(2_000)))),
+        ("show_force", [43, 1, 8, 1, 0, 254, 255, 3, 164, 101, 249, 25, 43, 43, 1, 7].repeat(5_000)),
+        ("write_force", [1, 2, 3, 4, 5, 6, 7, 8, 9].repeat(8_000)),
         ("show_pod", [0xF7, 1, 2, 3, 4, 5, 0xFD, 0x80, 0, 0x11].repeat(20_000)),
         ("drive", b"crane_fresh 1 2 3 4\nfresh 1 2 3 4 5 6\nstart\nno\n".repeat(3_000)),
     ];
@@ -200,7 +205,7 @@ fn noise_is_answered_and_tries_every_word_of_the_page() {
             let whole = answers(program, &bytes, usize::MAX, false);
             assert!(answers(program, &bytes, 11, false) == whole, "{program} {index}");
             seen += &whole.2;
-            if !["write_frames", "record"].contains(&program) {
+            if !["write_frames", "record", "write_force"].contains(&program) {
                 seen += &String::from_utf8(whole.1).unwrap();
             }
         }
@@ -229,6 +234,14 @@ fn noise_is_answered_and_tries_every_word_of_the_page() {
         "refused: wrong number\n",
         "refused: count over 62\n",
         "refused: not zero\n",
+        "force ",
+        "not for us 1 0\n",
+        "length over 16\n",
+        "wrong check\n",
+        "unfinished\n",
+        "report 1 refused 4\n",
+        " cut\n",
+        "; the hat is ",
         "more\n",
         "self-test passed\n",
         "up 112\n",
