@@ -131,7 +131,8 @@ pub fn shorten(call: &Call) -> String {
             }
             line
         }
-        Call::Fresh(..) | Call::New(_) | Call::PiecesFresh(_) | Call::Start | Call::Pod { .. } | Call::Force(_) => long,
+        Call::Fresh(..) | Call::New(_) | Call::PiecesFresh(_) | Call::Start => long,
+        Call::Pod { .. } | Call::Force(_) | Call::Commands(_) => long,
     }
 }
 

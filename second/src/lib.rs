@@ -1,10 +1,11 @@
 //! Panel and pod events, written from documents 01 and 02 alone: what the proved library is compared with.
 //!
-//! The rules: [`refusal`], [`table`], [`events`], [`reader`], [`pieces`], [`writer`], [`pod`], [`recorder`], [`force`].
+//! The rules: [`refusal`], [`table`], [`events`], [`reader`], [`pieces`], [`writer`], [`pod`], [`recorder`], [`force`], [`commands`].
 //! The programs: [`streams`], [`programs`]. The comparison: [`script`], [`maker`], [`random`], [`noise`], [`smaller`], [`tally`], [`requests`].
 //! For people: texts in [`records`] and [`brief`], a class's [`shift`].
 
 pub mod brief;
+pub mod commands;
 pub mod events;
 pub mod force;
 pub mod maker;

@@ -32,7 +32,7 @@ second noise PROGRAM SEED INDEX        one random input for a program
 second noises PROGRAM SEED FIRST COUNT FOLDER
                                        COUNT of them from FIRST on, with what the program answers, as files
 second programs FOLDER                 the programs that have a folder there and a twin here, in one line
-second show_table | crane_table | write_frames | show_pod | record | replay | show_force | write_force | drive < BYTES
+second PROGRAM < BYTES                 show_table, crane_table, write_frames, show_pod, record, replay, show_force, write_force, show_commands, write_commands or drive:
                                        the program of that name";
 
 const CASES: &str = include_str!("../cases.txt");
@@ -42,6 +42,7 @@ fn cases_of(request: Request) -> &'static str {
     match request {
         Request::Recorder => include_str!("../cases_recorder.txt"),
         Request::Force => include_str!("../cases_force.txt"),
+        Request::Commands => include_str!("../cases_commands.txt"),
     }
 }
 

@@ -6,7 +6,7 @@ use crate::events::Event;
 use crate::force::{LEN, OP, START};
 use crate::maker::Maker;
 use crate::pod::Pod;
-use crate::programs::{write_frames, HEADER};
+use crate::programs::{show_commands, write_frames, HEADER};
 use crate::reader::Reader;
 use crate::recorder::{block, BLOCK};
 use crate::table::{Layout, Setup, LIMITS, NUMBERS, SLOTS};
@@ -30,6 +30,8 @@ pub fn noise(program: &str, seed: u64, index: u64) -> Option<Vec<u8>> {
         "show_pod" => pod_bytes(&mut maker, shape, length),
         "show_force" => packets(&mut maker, shape, length),
         "write_force" => reports(&mut maker, shape, length),
+        "show_commands" => commands(&mut maker, shape, length),
+        "write_commands" => command_lines(&mut maker, shape, length),
         "drive" => script(&mut maker, shape, length),
         "show_table" | "crane_table" | "write_frames" | "record" | "replay" if shape == 0 => {
             odd_setup(&mut maker, layout, turn)
@@ -254,6 +256,51 @@ fn reports(maker: &mut Maker, shape: u64, length: usize) -> Vec<u8> {
         bytes.extend([force.hat, force.rudder as u8]);
     }
     bytes.truncate(length);
+    bytes
+}
+
+/// Bytes of commands, so many: plain, good ones, or those that are wrong too.
+fn commands(maker: &mut Maker, shape: u64, length: usize) -> Vec<u8> {
+    let mut bytes = Vec::new();
+    while bytes.len() < length {
+        match shape {
+            0 => bytes.push(maker.random.word() as u8),
+            1 => bytes.push(maker.random.pick(&[0x80, 1, 7, 8, 9, 0x0B, 0x0C, 0x0D, 0x0E, 0x1B, 0x1C, 0])),
+            2 => bytes.extend(maker.command().bytes()),
+            _ => bytes.extend(maker.command_part()),
+        }
+    }
+    bytes.truncate(length);
+    bytes
+}
+
+/// Lines as `show_commands` prints them, so many bytes: plain noise, good ones, those that are wrong too, and damaged ones.
+fn command_lines(maker: &mut Maker, shape: u64, length: usize) -> Vec<u8> {
+    if shape == 0 {
+        return plain(maker, length);
+    }
+    let (mut lines, source) = (Vec::new(), commands(maker, if shape == 1 { 2 } else { 3 }, length));
+    show_commands(&source[..], &mut lines, io::sink());
+    let lines = if shape == 3 { spoilt(maker, lines) } else { lines };
+    let mut bytes: Vec<u8> = lines.into_iter().take(length).collect();
+    bytes.resize(length, b'\n');
+    bytes
+}
+
+/// Lines with a number that is another, or a byte put in, left out or changed here and there.
+fn spoilt(maker: &mut Maker, lines: Vec<u8>) -> Vec<u8> {
+    let mut bytes = Vec::new();
+    for byte in lines {
+        match maker.random.below(60) {
+            0 => bytes.extend([byte, maker.random.pick(b" 0123456789abcdef-\n")]),
+            1 => bytes.push(maker.random.pick(b" 0123456789ax\n\r")),
+            2 => {}
+            3 if byte.is_ascii_digit() => {
+                bytes.extend(maker.random.pick(&[&b"0"[..], b"5", b"256", b"65536", b"99999999999999999999"]))
+            }
+            _ => bytes.push(byte),
+        }
+    }
     bytes
 }
 

@@ -1,9 +1,10 @@
 //! The reader of pod (ikbd) reports, one byte at a time.
 
+use crate::commands::{is_clock, Clock};
 use crate::refusal::Refusal;
 
 /// How many bytes of an unfinished report can be held: one less than the longest has.
-pub const PLACES: usize = 5;
+pub const PLACES: usize = 6;
 
 /// What a pod sends after power-up or reset where its self-test passed; from then on it is a key that comes up.
 pub const SELF_TEST: u8 = 0xF0;
@@ -34,6 +35,7 @@ pub enum Report {
     Relative { left: bool, right: bool, dx: i8, dy: i8 },
     Sticks(Stick, Stick),
     Stick { which: u8, stick: Stick },
+    Time(Clock),
     BadByte,
     BadReport,
 }
@@ -42,6 +44,7 @@ pub enum Report {
 pub fn length(first: u8) -> u64 {
     match first {
         0xF7 => 6,
+        0xFC => 7,
         0xF8..=0xFB | 0xFD => 3,
         0xFE | 0xFF => 2,
         _ => 1,
@@ -62,7 +65,7 @@ impl Pod {
         if self.held == 0 {
             return *self == self.without_bytes();
         }
-        // No report is longer than six bytes, so this keeps `held` to the five places too.
+        // No report is longer than seven bytes, so this keeps `held` to the six places too.
         self.held < length(self.bytes[0]) && self.bytes[self.held as usize..].iter().all(|b| *b == 0)
     }
 
@@ -77,7 +80,7 @@ impl Pod {
             self.held += 1;
             return Ok(Report::More);
         }
-        let [_, b1, b2, b3, b4] = self.bytes;
+        let [_, b1, b2, b3, b4, b5] = self.bytes;
         *self = self.without_bytes();
         Ok(match first {
             SELF_TEST if self.waits => {
@@ -91,6 +94,7 @@ impl Pod {
             0xF8..=0xFB => {
                 Report::Relative { left: first & 2 != 0, right: first & 1 != 0, dx: b1 as i8, dy: byte as i8 }
             }
+            0xFC => Some([b1, b2, b3, b4, b5, byte]).filter(is_clock).map_or(Report::BadReport, Report::Time),
             0xFD => match (stick(b1), stick(byte)) {
                 (Some(zero), Some(one)) => Report::Sticks(zero, one),
                 _ => Report::BadReport,

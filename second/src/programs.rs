@@ -1,8 +1,10 @@
-//! The programs of docs/PROGRAMS.md as filters: `show_table`, `crane_table`, `write_frames`, `show_pod` and `drive` here, the recorder's and the force stick's in files of their own.
+//! The programs of docs/PROGRAMS.md as filters: `show_table`, `crane_table`, `write_frames`, `show_pod` and `drive` here, those of the recorder, the force stick and the commands in files of their own.
 
+mod commands;
 mod force;
 mod recording;
 
+pub use commands::{show_commands, write_commands};
 pub use force::{show_force, write_force, REPORT};
 pub use recording::{record, replay};
 
@@ -26,8 +28,19 @@ pub const HEADER: usize = (1 + NUMBERS) * NUMBER;
 pub const ROW: usize = SLOT_NUMBERS * NUMBER;
 
 /// The names that [`run`] takes.
-pub const NAMES: [&str; 9] =
-    ["show_table", "crane_table", "write_frames", "show_pod", "record", "replay", "show_force", "write_force", "drive"];
+pub const NAMES: [&str; 11] = [
+    "show_table",
+    "crane_table",
+    "write_frames",
+    "show_pod",
+    "record",
+    "replay",
+    "show_force",
+    "write_force",
+    "show_commands",
+    "write_commands",
+    "drive",
+];
 
 /// What a setup's largest values are called, in their order.
 const LARGEST: [&str; NUMBERS] =
@@ -44,6 +57,8 @@ pub fn run(name: &str, input: impl Read, out: impl Write, err: impl Write) -> Op
         "replay" => replay(input, out, err),
         "show_force" => show_force(input, out, err),
         "write_force" => write_force(input, out, err),
+        "show_commands" => show_commands(input, out, err),
+        "write_commands" => write_commands(input, out, err),
         "drive" => drive(input, out, err),
         _ => return None,
     })

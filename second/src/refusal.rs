@@ -1,4 +1,4 @@
-//! The eight ways to say no, with document 01's numbers.
+//! The ways to say no, with their numbers: document 01's eight, and 11 of document 02.
 
 /// Why a call was not made; the first that fits in rising number.
 #[derive(Clone, Copy, PartialEq, Eq, Debug)]
@@ -7,14 +7,18 @@ pub enum Refusal {
     State,
     Frame,
     Value,
-    NoRoom { need: u64 },
+    NoRoom {
+        need: u64,
+    },
     Ragged,
     NotStale,
     Image,
+    /// A number of a command to the pod.
+    Command,
 }
 
 impl Refusal {
-    /// Document 01's number of it.
+    /// Its number in documents 01 and 02.
     pub fn number(self) -> u8 {
         match self {
             Refusal::Setup => 1,
@@ -25,6 +29,7 @@ impl Refusal {
             Refusal::Ragged => 6,
             Refusal::NotStale => 7,
             Refusal::Image => 8,
+            Refusal::Command => 11,
         }
     }
 

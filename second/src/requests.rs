@@ -7,12 +7,14 @@ pub enum Request {
     Recorder,
     /// K10, the force stick.
     Force,
+    /// K13, commands to the pod. The pod's own calls know the time of day whether this is turned on or not.
+    Commands,
 }
 
 impl Request {
     /// Each of them, for tests.
-    pub const ALL: &'static [Request] = &[Request::Recorder, Request::Force];
+    pub const ALL: &'static [Request] = &[Request::Recorder, Request::Force, Request::Commands];
 
     /// Those that `second script`, its tally and the noise for `drive` know. A request is turned on by its name here, and `tools/corpus` then makes the corpus anew.
-    pub const MADE: &'static [Request] = &[Request::Recorder, Request::Force];
+    pub const MADE: &'static [Request] = Request::ALL;
 }

@@ -6,7 +6,7 @@ use crate::pieces::PieceReader;
 use crate::pod::Pod;
 use crate::reader::{Mode, Reader};
 use crate::recorder::{put_check, BLOCK};
-use crate::script::{Call, Cut, ForceCall, RecorderCall};
+use crate::script::{Call, CommandsCall, Cut, ForceCall, RecorderCall};
 use crate::table::{Setup, Slot, SlotNumber, Table, SLOTS, SLOT_NUMBERS};
 use crate::writer::Writer;
 
@@ -31,6 +31,8 @@ fn verdict_of(call: &Call) -> Option<String> {
     match call {
         // Its answer begins with a state.
         Call::Pod { pod, .. } => Some(pod.is_well_formed().to_string()),
+        // And this one's with a place.
+        Call::Commands(CommandsCall::Read { .. }) => call.answer().split(' ').nth(1).map(str::to_string),
         _ => call.answer().split(' ').next().map(str::to_string),
     }
 }
@@ -41,7 +43,9 @@ fn weight_of(call: &Call) -> (usize, usize, u64, usize) {
     let words = || line.split(' ').skip(1);
     let (size, slots) = match call {
         Call::Write { size, writer, .. } => (*size, writer.setup.slots),
-        Call::Recorder(RecorderCall::Lay { size, .. }) | Call::Force(ForceCall::Write { size, .. }) => (*size, 0),
+        Call::Recorder(RecorderCall::Lay { size, .. })
+        | Call::Force(ForceCall::Write { size, .. })
+        | Call::Commands(CommandsCall::Write { size, .. }) => (*size, 0),
         _ => {
             let reader = call.pieces().map(|pieces| &pieces.reader).or(call.reader());
             (0, reader.map_or(0, |reader| reader.setup.slots))
@@ -87,6 +91,25 @@ fn candidates(call: &Call, give: &mut dyn FnMut(Call)) {
         Call::Load { reader, current, image } => smaller_loads(reader, *current, image, give),
         Call::Recorder(call) => smaller_recordings(call, &mut |call| give(Call::Recorder(call))),
         Call::Force(call) => smaller_packets(call, &mut |call| give(Call::Force(call))),
+        Call::Commands(call) => smaller_commands(call, &mut |call| give(Call::Commands(call))),
+    }
+}
+
+/// Fewer bytes, or from their start; a pod that holds nothing, or less room.
+fn smaller_commands(call: &CommandsCall, give: &mut dyn FnMut(CommandsCall)) {
+    match call {
+        CommandsCall::Read { position, bytes } => {
+            give(CommandsCall::Read { position: 0, bytes: bytes.clone() });
+            fewer_bytes(bytes, 1, &mut |bytes| give(CommandsCall::Read { position: *position, bytes }));
+        }
+        CommandsCall::Write { pod, position, size, command } => {
+            let mut with = |pod: Pod, position: u64, size: usize| {
+                give(CommandsCall::Write { pod, position, size, command: *command });
+            };
+            with(Pod { waits: false, ..*pod }, *position, *size);
+            with(pod.without_bytes(), *position, *size);
+            smaller_place(*position, *size, &mut |position, size| with(*pod, position, size));
+        }
     }
 }
 

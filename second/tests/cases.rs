@@ -5,7 +5,8 @@ use second::script::{answer_line, is_passed_over, Call, BAD_LINE, WRITER_NUMBERS
 
 const CASES: &str = include_str!("../cases.txt");
 /// Those of the requests that `drive` did not always know.
-const LATER: [&str; 2] = [include_str!("../cases_recorder.txt"), include_str!("../cases_force.txt")];
+const LATER: [&str; 3] =
+    [include_str!("../cases_recorder.txt"), include_str!("../cases_force.txt"), include_str!("../cases_commands.txt")];
 
 #[test]
 fn every_case_is_a_named_call() {

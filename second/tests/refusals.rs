@@ -185,20 +185,21 @@ fn pods() {
     for waits in [false, true] {
         let pod = |held, bytes| Pod { waits, held, bytes };
         for broken in [
-            pod(0, [1, 0, 0, 0, 0]),
-            pod(0, [0xF0, 0, 0, 0, 0]),
-            pod(0, [0xF8, 0, 0, 0, 0]),
-            pod(1, [0, 0, 0, 0, 0]),
-            pod(1, [0x75, 0, 0, 0, 0]),
-            pod(1, [0xF0, 0, 0, 0, 0]),
-            pod(1, [0xFC, 0, 0, 0, 0]),
-            pod(1, [0xF8, 1, 0, 0, 0]),
-            pod(2, [0xFE, 0, 0, 0, 0]),
-            pod(3, [0xFD, 0, 0, 0, 0]),
-            pod(5, [0xFB, 0, 0, 0, 0]),
-            pod(6, [0xF7, 0, 0, 0, 0]),
-            pod(257, [0xF7, 0, 0, 0, 0]),
-            pod(u64::MAX, [0xF7, 0, 0, 0, 0]),
+            pod(0, [1, 0, 0, 0, 0, 0]),
+            pod(0, [0xF0, 0, 0, 0, 0, 0]),
+            pod(0, [0xF8, 0, 0, 0, 0, 0]),
+            pod(1, [0, 0, 0, 0, 0, 0]),
+            pod(1, [0x75, 0, 0, 0, 0, 0]),
+            pod(1, [0xF0, 0, 0, 0, 0, 0]),
+            pod(1, [0xFC, 0, 0, 0, 0, 1]),
+            pod(7, [0xFC, 0, 0, 0, 0, 0]),
+            pod(1, [0xF8, 1, 0, 0, 0, 0]),
+            pod(2, [0xFE, 0, 0, 0, 0, 0]),
+            pod(3, [0xFD, 0, 0, 0, 0, 0]),
+            pod(5, [0xFB, 0, 0, 0, 0, 0]),
+            pod(6, [0xF7, 0, 0, 0, 0, 0]),
+            pod(257, [0xF7, 0, 0, 0, 0, 0]),
+            pod(u64::MAX, [0xF7, 0, 0, 0, 0, 0]),
         ] {
             let mut state = broken;
             for byte in [0, 0xF0] {
@@ -207,9 +208,9 @@ fn pods() {
             }
         }
         // Held bytes are not judged before the last one is there.
-        let mut state = pod(5, [0xF7, 0xFF, 1, 2, 3]);
+        let mut state = pod(5, [0xF7, 0xFF, 1, 2, 3, 0]);
         assert_eq!(state.take(4), Ok(Report::BadReport));
-        assert_eq!(state, pod(0, [0; 5]));
+        assert_eq!(state, pod(0, [0; 6]));
     }
 }
 
@@ -233,6 +234,7 @@ fn all_first_bytes() {
             0x81..=0xF5 => (Report::Up(first - 0x80), 1),
             0xF7 => (Report::Absolute { flags: 0, x: 0, y: 0 }, 6),
             0xF8..=0xFB => (Report::Relative { left: first >= 0xFA, right: first % 2 == 1, dx: 0, dy: 0 }, 3),
+            0xFC => (Report::Time([0; 6]), 7),
             0xFD..=0xFF => (report, if first == 0xFD { 3 } else { 2 }),
             _ => (Report::BadByte, 1),
         };

@@ -50,7 +50,7 @@ fn inside_a_report_it_is_data() {
 #[test]
 fn other_bytes_are_read_as_usual() {
     for first in (0..=255u8).filter(|first| *first != 0xF0) {
-        let bytes = [first, 0x81, 0x81, 0x81, 0x81, 0x81];
+        let bytes = [first, 0x81, 0x81, 0x81, 0x81, 0x81, 0x81];
         let length = second::pod::length(first) as usize;
         let (waiting, after) = pod(Pod::FRESH, &bytes[..length]);
         assert_eq!((&waiting, after), (&pod(DONE, &bytes[..length]).0, Pod::FRESH), "{first:#x}");

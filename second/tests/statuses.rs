@@ -6,8 +6,19 @@ use std::process::{Command, Output, Stdio};
 use std::sync::{Mutex, MutexGuard, PoisonError};
 
 const SETUP: [u8; 24] = [1, 0, 0, 0, 9, 0, 0, 0, 9, 0, 0, 0, 9, 0, 0, 0, 9, 0, 0, 0, 9, 0, 0, 0];
-const PROGRAMS: [&str; 9] =
-    ["show_table", "crane_table", "write_frames", "show_pod", "record", "replay", "show_force", "write_force", "drive"];
+const PROGRAMS: [&str; 11] = [
+    "show_table",
+    "crane_table",
+    "write_frames",
+    "show_pod",
+    "record",
+    "replay",
+    "show_force",
+    "write_force",
+    "show_commands",
+    "write_commands",
+    "drive",
+];
 
 /// Tests take turns: a process that another one has just begun still holds the pipes of this one, and a closed one would not be closed.
 fn turn() -> MutexGuard<'static, ()> {
@@ -54,6 +65,12 @@ fn accepted_and_refused() {
     for refused in [&[43][..], &[43, 1, 17], &[43, 2, 0, 40]] {
         assert_eq!(run("show_force", refused), Some(1));
     }
+    assert_eq!(run("show_commands", &[0x80, 1, 0x80, 2, 0]), Some(0));
+    assert_eq!(run("show_commands", &[0x07, 5]), Some(1));
+    assert_eq!(run("show_commands", &[0x80]), Some(1));
+    assert_eq!(run("write_commands", b"reset\nbuttons 4"), Some(0));
+    assert_eq!(run("write_commands", b"buttons 5\n"), Some(1));
+    assert_eq!(run("write_commands", b"\n"), Some(1));
     assert_eq!(run("write_force", &[0; 18]), Some(0));
     assert_eq!(run("write_force", &[255; 9]), Some(1));
     assert_eq!(run("write_force", &[0; 10]), Some(1));
@@ -92,6 +109,11 @@ fn failed_reads() {
         (&["show_pod"], format!("show_pod: {failed}")),
         (&["show_force"], format!("show_force: {failed}")),
         (&["write_force"], format!("write_force: {failed}write_force: input was lost, and no packet can say so\n")),
+        (&["show_commands"], format!("show_commands: {failed}")),
+        (
+            &["write_commands"],
+            format!("write_commands: {failed}write_commands: input was lost, and no command can say so\n"),
+        ),
         (&["drive"], format!("drive: {failed}")),
         (&["records", "encode"], format!("second: {failed}")),
         (&["records", "decode"], format!("second: {failed}")),
@@ -112,6 +134,8 @@ fn failed_writes() {
         (&["record"], "record", &SETUP),
         (&["show_force"], "show_force", &[43]),
         (&["write_force"], "write_force", &[0; 9]),
+        (&["show_commands"], "show_commands", &[8]),
+        (&["write_commands"], "write_commands", b"reset\n"),
         (&["replay"], "replay", &SETUP),
         (&["drive"], "drive", b"start\n"),
         (&["records", "encode"], "second", b"REPORT\n"),
@@ -174,12 +198,12 @@ fn answers_that_differ() {
     let (script, answers) = (folder.join("script"), folder.join("answers"));
     fs::write(&script, "# a pod\nstart\n\n  \n").unwrap();
     for (said, status) in [
-        ("1 0 0 0 0 0 0\nbad line\n", 0),
-        ("1 0 0 0 0 0 0\nbad line", 0),
-        ("1 0 0 0 0 0 0\r\nbad line\n", 1),
-        ("1 0 0 0 0 0 0\nbad line \n", 1),
-        ("1 0 0 0 0 0 0\n", 1),
-        ("1 0 0 0 0 0 0\nbad line\n\n", 1),
+        ("1 0 0 0 0 0 0 0\nbad line\n", 0),
+        ("1 0 0 0 0 0 0 0\nbad line", 0),
+        ("1 0 0 0 0 0 0 0\r\nbad line\n", 1),
+        ("1 0 0 0 0 0 0 0\nbad line \n", 1),
+        ("1 0 0 0 0 0 0 0\n", 1),
+        ("1 0 0 0 0 0 0 0\nbad line\n\n", 1),
     ] {
         fs::write(&answers, said).unwrap();
         let words = ["differ", script.to_str().unwrap(), answers.to_str().unwrap()];

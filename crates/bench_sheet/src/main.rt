@@ -246,7 +246,7 @@ fn say_name(page: &mut [u8], out: Out, name: &[u8]) -> Out {
 }
 
 // By itself, since an array that is lent is known to have its length, which spares a proof that a field does.
-fn say_held(page: &mut [u8], out: Out, count: usize, held: &[u8; 5]) -> Out {
+fn say_held(page: &mut [u8], out: Out, count: usize, held: &[u8; pod::PLACES]) -> Out {
     let a = words::say_part(page, out, b" count", count as u64);
     say_all_bytes(page, a, held)
 }
@@ -303,11 +303,28 @@ fn self_test_cases(page: &mut [u8], out: Out) -> Out {
     pod_case(page, c, b"F1", &[0xf1])
 }
 
+// K13: the time of day, and a wrong digit of it.
+fn time_cases(page: &mut [u8], out: Out) -> Out {
+    let a = pod_case(
+        page,
+        out,
+        b"FC 26 11 16 04 59 30",
+        &[0xfc, 0x26, 0x11, 0x16, 0x04, 0x59, 0x30],
+    );
+    pod_case(
+        page,
+        a,
+        b"FC 26 11 16 04 5A 30",
+        &[0xfc, 0x26, 0x11, 0x16, 0x04, 0x5a, 0x30],
+    )
+}
+
 fn pod_cases(page: &mut [u8], out: Out) -> Out {
     let a = report_cases(page, out);
     let b = key_cases(page, a);
     let c = bad_cases(page, b);
-    self_test_cases(page, c)
+    let d = self_test_cases(page, c);
+    time_cases(page, d)
 }
 
 fn answer(page: &mut [u8], out: Out) -> Out {

@@ -21,6 +21,7 @@ verdict-back W.NoRoom = refl
 verdict-back W.Ragged = refl
 verdict-back W.NotStale = refl
 verdict-back W.Image = refl
+verdict-back W.Command = refl
 
 pub mode-back : (m : Mode) → modeFrom (modeOf m) ≡ m
 mode-back Following = refl
@@ -43,6 +44,7 @@ verdict-seen C.noRoom = refl
 verdict-seen C.ragged = refl
 verdict-seen C.notStale = refl
 verdict-seen C.image = refl
+verdict-seen C.command = refl
 
 -- So the number of what is held of a verdict is document 01's.
 pub number-seen : (v : C.Verdict) → verdictNumber (verdictFrom v) ≡ C.verdictNumber v

@@ -31,6 +31,7 @@ verdictOf W.NoRoom = C.noRoom
 verdictOf W.Ragged = C.ragged
 verdictOf W.NotStale = C.notStale
 verdictOf W.Image = C.image
+verdictOf W.Command = C.command
 
 -- The verdict of such a name.
 abbrev pub verdictFrom : C.Verdict → Verdict
@@ -43,8 +44,9 @@ verdictFrom C.noRoom = W.NoRoom
 verdictFrom C.ragged = W.Ragged
 verdictFrom C.notStale = W.NotStale
 verdictFrom C.image = W.Image
+verdictFrom C.command = W.Command
 
--- Document 01's number of a verdict; 0 for accepted.
+-- Document 01's number of a verdict, 11 of document 02's K13; 0 for accepted.
 abbrev pub verdictNumber : Verdict → ℕ
 verdictNumber v = C.verdictNumber (verdictOf v)
 

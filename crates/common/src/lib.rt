@@ -78,10 +78,12 @@ pub enum Verdict {
     Ragged,
     NotStale,
     Image,
+    // document 02's K13
+    Command,
 }
 
 impl Verdict {
-    // Document 01's number of a refusal; 0 where the call was accepted.
+    // Document 01's number of a refusal, 11 of 02's K13; 0 where the call was accepted.
     pub fn number(self) -> u8
         ensures { λ r. ⌜ r ≡ verdictNumber self ⌝ }
     {
@@ -95,6 +97,7 @@ impl Verdict {
             Verdict::Ragged => 6,
             Verdict::NotStale => 7,
             Verdict::Image => 8,
+            Verdict::Command => 11,
         }
     }
 }

@@ -29,17 +29,6 @@ fn length_of(ns: &[u64], from: usize, to: usize) -> u64 {
     sum
 }
 
-fn are_bytes(ns: &[u64], from: usize) -> bool {
-    let mut i = from;
-    while i < ns.len() {
-        if ns[i] > 255 {
-            return false;
-        }
-        i += 1;
-    }
-    true
-}
-
 // How many pieces there are; none, where a line cannot have so many.
 fn count_of(ns: &[u64]) -> usize
     ensures { λ r. ⌜ r ≤ 12000 ⌝ }
@@ -64,14 +53,14 @@ fn whole(ns: &[u64]) -> bool {
     if length_of(ns, PIECES + 1, from) != (ns.len() - from) as u64 {
         return false;
     }
-    are_bytes(ns, from)
+    values::are_bytes(ns, from)
 }
 
 // What a call's numbers must be beyond their kinds.
 pub fn together(call: Call, ns: &[u64]) -> bool {
     match call {
         Call::PiecesTake => whole(ns),
-        _ => true,
+        _ => drive_devices::together(call, ns),
     }
 }
 

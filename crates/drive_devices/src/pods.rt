@@ -5,7 +5,7 @@ use drive_lines::values;
 use pod::PodState;
 use stream::Out;
 
-fn pod_of(ns: &[u64]) -> PodState {
+pub fn pod_of(ns: &[u64]) -> PodState {
     PodState {
         waits: values::number(ns, 0) == 1,
         bytes: [
@@ -14,6 +14,7 @@ fn pod_of(ns: &[u64]) -> PodState {
             values::byte(ns, 4),
             values::byte(ns, 5),
             values::byte(ns, 6),
+            values::byte(ns, 7),
         ],
         count: values::number(ns, 1) as usize,
     }
@@ -27,7 +28,7 @@ fn wait(page: &mut [u8], out: Out, waits: bool) -> Out {
     stream::say(page, out, b"0")
 }
 
-fn say_state(page: &mut [u8], out: Out, s: PodState) -> Out {
+pub fn say_state(page: &mut [u8], out: Out, s: PodState) -> Out {
     let bytes = s.bytes;
     let a = wait(page, out, s.waits);
     let b = parts::number(page, a, s.count);

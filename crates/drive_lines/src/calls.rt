@@ -28,6 +28,8 @@ pub enum Call {
     RecorderRead,
     ForceRead,
     ForceWrite,
+    CommandsRead,
+    CommandsWrite,
     None,
 }
 
@@ -55,7 +57,7 @@ pub const READER: usize = SETUP + 2 + 2 * TABLE;
 
 pub const WRITER: usize = SETUP + 2 + TABLE;
 
-pub const POD: usize = 7;
+pub const POD: usize = 2 + pod::PLACES;
 
 // A reader, how many bytes are left over, and a place for each byte of a record but one.
 pub const PIECES: usize = READER + records::LENGTH;
@@ -77,6 +79,9 @@ pub const READ_BYTES: usize = 1;
 
 // A report of the force stick, a position and a size.
 const FORCE_WRITE: usize = 8;
+
+// A pod, a position, a size and a command's number; its numbers come behind them.
+pub const COMMAND_NUMBERS: usize = POD + 3;
 
 // The most numbers of a line, and the bytes of the largest buffer.
 pub const NUMBERS: usize = 12000;
@@ -130,6 +135,17 @@ fn crane_call_of(line: &[u8], start: usize) -> Call {
         return Call::CraneAsk;
     }
     named(line, start, b"crane_good", Call::CraneGood)
+}
+
+// A command's call, or one of the cranes' reader.
+fn commands_or_crane(line: &[u8], start: usize) -> Call {
+    if is(line, start, b"commands_read") {
+        return Call::CommandsRead;
+    }
+    if is(line, start, b"commands_write") {
+        return Call::CommandsWrite;
+    }
+    crane_call_of(line, start)
 }
 
 // A pod's call, or one of a reader of pieces.
@@ -191,7 +207,7 @@ pub fn call_of(line: &[u8], start: usize) -> Call {
         b'w' => named(line, start, b"write", Call::Write),
         b's' => named(line, start, b"start", Call::Start),
         b'p' => pod_or_pieces(line, start),
-        b'c' => crane_call_of(line, start),
+        b'c' => commands_or_crane(line, start),
         _ => Call::None,
     }
 }
@@ -378,6 +394,23 @@ fn force_write_kind(i: usize) -> Kind {
     }
 }
 
+// How wide a command's numbers are goes by the command, so they are held to it when that is known.
+fn command_kind(i: usize) -> Kind {
+    match i {
+        0 => Kind::Bits64,
+        1 => Kind::Size,
+        2 => Kind::Bits8,
+        _ => Kind::Bits16,
+    }
+}
+
+fn commands_write_kind(i: usize) -> Kind {
+    if i < POD {
+        return pod_kind(i);
+    }
+    command_kind(i - POD)
+}
+
 // The kind of a call's number i.
 pub fn kind_at(call: Call, i: usize) -> Kind {
     match call {
@@ -401,6 +434,8 @@ pub fn kind_at(call: Call, i: usize) -> Kind {
         Call::RecorderRead => block_kind(i),
         Call::ForceRead => read_kind(i),
         Call::ForceWrite => force_write_kind(i),
+        Call::CommandsRead => read_kind(i),
+        Call::CommandsWrite => commands_write_kind(i),
         Call::None => Kind::None,
         _ => reader_kind(call, i),
     }
@@ -434,6 +469,8 @@ pub fn fewest(call: Call) -> usize {
         Call::RecorderRead => BLOCK_BYTES,
         Call::ForceRead => READ_BYTES,
         Call::ForceWrite => FORCE_WRITE,
+        Call::CommandsRead => READ_BYTES,
+        Call::CommandsWrite => COMMAND_NUMBERS,
         Call::None => 1,
     }
 }

@@ -51,6 +51,18 @@ pub fn signed_byte(ns: &[u64], i: usize) -> i8 {
     !((0xff - v) as i8)
 }
 
+// Whether the numbers from `from` on are bytes.
+pub fn are_bytes(ns: &[u64], from: usize) -> bool {
+    let mut i = from;
+    while i < ns.len() {
+        if ns[i] > 255 {
+            return false;
+        }
+        i += 1;
+    }
+    true
+}
+
 // The numbers from `from` on as bytes; how many there are.
 pub fn bytes_of(ns: &[u64], from: usize, out: &mut [u8]) -> usize
     ensures { λ r. ⌜ Counts r (now (out .exit)) ⌝ }

@@ -78,6 +78,7 @@ not-accepted C.noRoom n = tt
 not-accepted C.ragged n = tt
 not-accepted C.notStale n = tt
 not-accepted C.image n = tt
+not-accepted C.command n = tt
 
 refused-load : (s : ReaderState) (m : List ℤ) (c : ℕ) (q : LoadAnswer) → Loaded s m c q → (q .verdict ≡ Accepted → ⊥)
     → T (not (isAccepted (loadVerdict base (seen s) m c)))

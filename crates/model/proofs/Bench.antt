@@ -9,7 +9,7 @@ use Rattle.model.specs.Reader.{oneShown, run}
 use Rattle.model.specs.States.{writerGood, readerGood}
 use Rattle.model.specs.Pod.{kindOf, amended, wellFormed, signed, fed, stepBy}
 use Rattle.model.specs.Calls.{accepted, freshWriterCall, freshReaderCall, writeVerdict, writeCall, writeBuffer, runVerdict, runCall}
-use Rattle.model.specs.Bench.{Row, outcome, pupil, panel, fresh, sheet, replaced, selfTests, pressures, pale, pales, gloves, writer, at}
+use Rattle.model.specs.Bench.{Row, outcome, pupil, panel, fresh, sheet, replaced, selfTests, times, pressures, pale, pales, gloves, writer, at}
 
 -- Every row: the writer's whole answer, every byte of the buffer, and the table read back; or the pod's state and answers.
 sheet-holds : map (λ (r : Row). outcome (r .given)) sheet ≡ map (λ (r : Row). r .gives) sheet
@@ -47,3 +47,8 @@ zero-read = refl
 self-tests-hold : map (λ (r : Row). outcome (r .given)) selfTests ≡ map (λ (r : Row). r .gives) selfTests
 unfolding kindOf amended wellFormed signed fed stepBy
 self-tests-hold = refl
+
+-- The time of day (K13): a wrong digit is a bad report, and six bytes may be held.
+times-hold : map (λ (r : Row). outcome (r .given)) times ≡ map (λ (r : Row). r .gives) times
+unfolding kindOf amended wellFormed signed fed stepBy
+times-hold = refl

@@ -88,6 +88,7 @@ accepted-only C.noRoom t = absurd t
 accepted-only C.ragged t = absurd t
 accepted-only C.notStale t = absurd t
 accepted-only C.image t = absurd t
+accepted-only C.command t = absurd t
 
 -- An answer that is accepted by name where the verdict is, and else carries it, has the verdict.
 pub carries : {A : Type 0} (verdict : A → Verdict) (v : Verdict) (x y : A) → verdict x ≡ C.accepted → verdict y ≡ v → verdict (cond (isAccepted v) x y) ≡ v

@@ -9,8 +9,8 @@ use lib.Dec.{leb, eqb}
 use lib.ListN.{set, replicate}
 use borrow.Author.Tests.{le-leb, lt-leb, ne-eqb}
 use Rattle.model.specs.Numbers.{between}
-use Rattle.model.specs.Pod.{kindOf, selfTest, amended, keyDownReport, keyUpReport, absoluteReport, relativeReport, bothSticksReport}
-use Rattle.model.specs.Pod.{oneStickReport, selfTestReport, badByteReport}
+use Rattle.model.specs.Pod.{kindOf, selfTest, amended, keyDownReport, keyUpReport, absoluteReport, relativeReport, timeReport}
+use Rattle.model.specs.Pod.{bothSticksReport, oneStickReport, selfTestReport, badByteReport}
 
 -- ---- all 256
 
@@ -26,7 +26,7 @@ pub all-first-bytes : map kindOf (from 0x00 256)
     ++ map keyUpReport (from 0x01 0x75)
     ++ badByteReport ∷ absoluteReport
     ∷ relativeReport false false ∷ relativeReport false true ∷ relativeReport true false ∷ relativeReport true true
-    ∷ badByteReport ∷ bothSticksReport ∷ oneStickReport 0 ∷ oneStickReport 1 ∷ []
+    ∷ timeReport ∷ bothSticksReport ∷ oneStickReport 0 ∷ oneStickReport 1 ∷ []
 unfolding kindOf
 all-first-bytes = refl
 
@@ -69,6 +69,7 @@ module _ (b : ℕ) where
         under 0x81 0xf5 b (omega arith),
         under 0xf7 0xf7 b (omega arith),
         under 0xf8 0xfb b (omega arith),
+        under 0xfc 0xfc b (omega arith),
         under 0xfd 0xfd b (omega arith),
         under 0xfe 0xff b (omega arith),
       )
@@ -98,6 +99,7 @@ module _ (b : ℕ) where
         over 0x81 0xf5 b (omega arith),
         over 0xf7 0xf7 b (omega arith),
         over 0xf8 0xfb b (omega arith),
+        over 0xfc 0xfc b (omega arith),
         over 0xfd 0xfd b (omega arith),
         within 0xfe 0xff b l h,
       )

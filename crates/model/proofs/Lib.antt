@@ -63,6 +63,7 @@
 --   Recordings: a recording's blocks by their places; it reads back, and may be laid in parts.
 --   Tampered: blocks left out, doubled or in each other's place, bytes cut off, one byte altered.
 --   Laying: the recorder's calls that write, refused exactly when.
+--   TimeOfDay: what seven bytes from 0xFC on say, whatever they are (K13).
 -- The force stick (K10)
 --   ForceBits: the numbers in a packet: CS, in which one altered byte shows, signed numbers, buttons and hat.
 --   ForcePackets: a packet at the start of bytes, by cases.
@@ -73,6 +74,12 @@
 --   ForceForms: each report has one byte form.
 --   ForceAltered: one altered byte of a written packet is never read as its report, and what is answered.
 --   ForceCalls: exact refusals of a write, and the buffer afterwards.
+-- The commands to the pod (K13)
+--   CommandSheet: what is read of inputs worked out by hand, and what writes leave.
+--   CommandReads: reading at a position, by cases; the place moves on past the whole command; what comes later; all commands of an input.
+--   CommandForms: a written command is read where it stands, and a list of them as the list.
+--   CommandOnes: what is read as a command is what is written for it; no byte form begins another; an answer by its number and values.
+--   CommandCalls: exact refusals of a write, the pod's state, and the buffer afterwards.
 pub mod Bench
 pub mod AtReport
 pub mod Cranes
@@ -117,6 +124,7 @@ pub mod PiecesCases
 pub mod Pieces
 pub mod PiecesCalls
 pub mod SelfTest
+pub mod TimeOfDay
 pub mod ForceSheet
 pub mod ForceBits
 pub mod ForcePackets
@@ -127,6 +135,11 @@ pub mod ForceWritten
 pub mod ForceForms
 pub mod ForceAltered
 pub mod ForceCalls
+pub mod CommandSheet
+pub mod CommandReads
+pub mod CommandForms
+pub mod CommandOnes
+pub mod CommandCalls
 pub mod Limits
 pub mod Recorded
 pub mod Weights

@@ -13,10 +13,10 @@ use Rattle.model.proofs.Bools.{and-left, and-right}
 use Rattle.model.proofs.Exact.{exact}
 use Rattle.model.proofs.Places.{zeros-replicate, clear-places}
 use Rattle.model.specs.Refusals.{Exact, podRows}
-use Rattle.model.specs.Pod.{Kind, keyDownReport, keyUpReport, absoluteReport, relativeReport, bothSticksReport, oneStickReport, selfTestReport}
-use Rattle.model.specs.Pod.{badByteReport, kindOf, selfTest, amended, lengthOf, places, State, heldIn, unusedIn, holding, emptied, fresh}
+use Rattle.model.specs.Pod.{Kind, keyDownReport, keyUpReport, absoluteReport, relativeReport, timeReport, bothSticksReport}
+use Rattle.model.specs.Pod.{oneStickReport, selfTestReport, badByteReport, kindOf, selfTest, amended, lengthOf, places, State, heldIn, unusedIn, holding, emptied, fresh}
 use Rattle.model.specs.Pod.{unfinished, zeros, wellFormed, Report, more, badByte, badReport, reportRefusal, ends, waitsAfter}
-use Rattle.model.specs.Pod.{goodFlags, goodStick, byteAt, judged, Fed, firstOf, keeping, ending, fedTo, fed}
+use Rattle.model.specs.Pod.{goodClock, clockIn, goodFlags, goodStick, byteAt, judged, Fed, firstOf, keeping, ending, fedTo, fed}
 use Rattle.model.specs.Pod.{Stepped, accepted, refusing, stepBy, step, told, after, run}
 
 -- ---- places and the bytes held
@@ -77,6 +77,7 @@ lengths (keyDownReport key) = (lit≤ tt, lit≤ tt)
 lengths (keyUpReport key) = (lit≤ tt, lit≤ tt)
 lengths absoluteReport = (lit≤ tt, lit≤ tt)
 lengths (relativeReport left right) = (lit≤ tt, lit≤ tt)
+lengths timeReport = (lit≤ tt, lit≤ tt)
 lengths bothSticksReport = (lit≤ tt, lit≤ tt)
 lengths (oneStickReport which) = (lit≤ tt, lit≤ tt)
 lengths selfTestReport = (lit≤ tt, lit≤ tt)
@@ -200,6 +201,7 @@ unrefused (keyDownReport key) r = refl
 unrefused (keyUpReport key) r = refl
 unrefused absoluteReport r = by-judging reportRefusal refl (goodFlags (byteAt r 1)) _ refl
 unrefused (relativeReport left right) r = refl
+unrefused timeReport r = by-judging reportRefusal refl (goodClock (clockIn r)) _ refl
 unrefused bothSticksReport r = by-judging reportRefusal refl (goodStick (byteAt r 1) && goodStick (byteAt r 2)) _ refl
 unrefused (oneStickReport which) r = by-judging reportRefusal refl (goodStick (byteAt r 1)) _ refl
 unrefused selfTestReport r = refl

@@ -13,7 +13,7 @@ use Rattle.model.proofs.FirstBytes.{unwaited-row, other-row}
 use Rattle.model.proofs.Pod.{key-length, formed, by-judging, by-last, step-accepted, step-formed}
 use Rattle.model.specs.Numbers.{between}
 use Rattle.model.specs.Pod.{Kind, kindOf, selfTest, amended, unamended, lengthOf, State, heldIn, holding, emptied, fresh, afterReset}
-use Rattle.model.specs.Pod.{unfinished, wellFormed, keyUp, selfTestPassed, passed, goodFlags, goodStick, byteAt, judged, firstOf, fedTo, fed}
+use Rattle.model.specs.Pod.{unfinished, wellFormed, keyUp, selfTestPassed, passed, goodClock, clockIn, goodFlags, goodStick, byteAt, judged, firstOf, fedTo, fed}
 use Rattle.model.specs.Pod.{Stepped, accepted, refusing, stepBy, step, told, toldOf, after, runBy, run, answersBy}
 use Rattle.model.specs.Pod.{nothingHeld, selfTestHere, beforeSelfTest, waiting, DiffersOnce}
 
@@ -89,9 +89,10 @@ table-quiet b =
     (by-row (between 0x81 0xf5 b) _ _ (record { quiet = λ r. refl })
     (by-row (between 0xf7 0xf7 b) _ _ (record { quiet = λ r. by-judging passed refl (goodFlags (byteAt r 1)) _ refl })
     (by-row (between 0xf8 0xfb b) _ _ (record { quiet = λ r. refl })
+    (by-row (between 0xfc 0xfc b) _ _ (record { quiet = λ r. by-judging passed refl (goodClock (clockIn r)) _ refl })
     (by-row (between 0xfd 0xfd b) _ _ (record { quiet = λ r. by-judging passed refl (goodStick (byteAt r 1) && goodStick (byteAt r 2)) _ refl })
     (by-row (between 0xfe 0xff b) _ _ (record { quiet = λ r. by-judging passed refl (goodStick (byteAt r 1)) _ refl })
-    (record { quiet = λ r. refl }))))))
+    (record { quiet = λ r. refl })))))))
 
 -- So no byte is answered so by 01's table.
 quiet-fed : (held : List ℕ) (b : ℕ) → passed (fed kindOf held b .report) ≡ false

@@ -1,5 +1,5 @@
 -- The bench sheet's cases marked P and the run cases of document 02, as tables: what is given, and what the papers say comes of it. Bench of proofs/ shows every row. Assumes nothing.
-use mathlib.Core.Bool.{false}
+use mathlib.Core.Bool.{true, false}
 use mathlib.Core.List.{List, [], _∷_, _++_}
 use Prim.Native.Nat.{ℕ, _-_}
 use lib.IntN.{ℤ, pos, negsuc}
@@ -171,6 +171,21 @@ selfTests =
     ∷ hears (0xf7 ∷ 0xf0 ∷ 0x00 ∷ 0x00 ∷ 0x00 ∷ 0x00 ∷ 0xf0 ∷ []) (P.emptied false) (P.badReport ∷ P.selfTestPassed ∷ [])
     ∷ hears (0xf8 ∷ 0xf0 ∷ 0xf0 ∷ []) P.fresh (P.relative false false (negsuc 15) (negsuc 15) ∷ [])
     ∷ hears (0xf1 ∷ []) P.fresh (P.keyUp 0x71 ∷ [])
+    ∷ []
+
+-- A clock, by its six bytes.
+abbrev pub clock : ℕ → ℕ → ℕ → ℕ → ℕ → ℕ → P.Clock
+clock year month day hour minute second = record { year = year; month = month; day = day; hour = hour; minute = minute; second = second }
+
+-- The time of day in 02's K13, worked out by hand: 2026-11-16 04:59:30; a wrong low digit and a wrong high one, each judged with the last
+-- byte; no range of a month or an hour is judged; six bytes held.
+abbrev pub times : List Row
+times =
+    hears (0xfc ∷ 0x26 ∷ 0x11 ∷ 0x16 ∷ 0x04 ∷ 0x59 ∷ 0x30 ∷ []) P.fresh (P.timeOfDay (clock 0x26 0x11 0x16 0x04 0x59 0x30) ∷ [])
+    ∷ hears (0xfc ∷ 0x26 ∷ 0x11 ∷ 0x16 ∷ 0x04 ∷ 0x5a ∷ 0x30 ∷ 0x01 ∷ []) P.fresh (P.badReport ∷ P.keyDown 0x01 ∷ [])
+    ∷ hears (0xfc ∷ 0xa6 ∷ 0x11 ∷ 0x16 ∷ 0x04 ∷ 0x59 ∷ 0x30 ∷ 0xf0 ∷ []) (P.emptied false) (P.badReport ∷ P.selfTestPassed ∷ [])
+    ∷ hears (0xfc ∷ 0x99 ∷ 0x13 ∷ 0x00 ∷ 0x24 ∷ 0x60 ∷ 0x99 ∷ []) P.fresh (P.timeOfDay (clock 0x99 0x13 0x00 0x24 0x60 0x99) ∷ [])
+    ∷ hears (0xfc ∷ 0xf0 ∷ 0x11 ∷ 0x16 ∷ 0x04 ∷ 0x59 ∷ []) (P.holding true (0xfc ∷ 0xf0 ∷ 0x11 ∷ 0x16 ∷ 0x04 ∷ 0x59 ∷ [])) []
     ∷ []
 
 -- A row: a frame on a writer's state and an empty buffer, refused: the state stays, and there is nothing to read.

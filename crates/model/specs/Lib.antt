@@ -17,10 +17,12 @@ pub mod Refusals
 pub mod Recorder
 pub mod Recorded
 pub mod Force
+pub mod Commands
 pub mod Presses
 pub mod Pieces
 pub mod Bench
 pub mod ForceSheet
+pub mod CommandSheet
 pub mod Shift
 pub mod Narrow
 pub mod Unique

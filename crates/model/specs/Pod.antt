@@ -1,8 +1,8 @@
 -- Pod reports: the definitions of document 01's part of that name, in its words and order, with 02's K3: a fresh state waits for
--- the pod's "self-test passed". Cited by the laws of proofs/Pod and proofs/SelfTest and by the promises of the crate pod. Assumes nothing.
+-- the pod's "self-test passed", and K13's report of the time of day. Cited by the laws of proofs/Pod and proofs/SelfTest and by the promises of the crate pod. Assumes nothing.
 --
 -- In this file: 01's table of first bytes (Kind, kindOf, lengthOf) and K3's (amended); the state (State, heldIn, holding, fresh) and
--- when it is well formed (wellFormed); the answer (Report) with its refusal number and its numbers; the judging of a whole report
+-- when it is well formed (wellFormed); a clock (Clock, goodClock); the answer (Report) with its refusal number and its numbers; the judging of a whole report
 -- (judged); a byte after the bytes held (fed), a step of a state (stepBy, step), a run over bytes (runBy, run, answersBy). The machine
 -- is one, over any table of first bytes: 01's reads by `unamended`, K3's by `amended`.
 use mathlib.Core.Path.{_≡_}
@@ -21,21 +21,22 @@ pub data Kind : Type 0 where
   keyDownReport keyUpReport : ℕ → Kind
   absoluteReport : Kind
   relativeReport : Bool → Bool → Kind
-  bothSticksReport : Kind
+  timeReport bothSticksReport : Kind
   oneStickReport : ℕ → Kind
   selfTestReport badByteReport : Kind
 
--- The report that a first byte opens in document 01: one decision by ranges, in which bit 1 is left and bit 0 right, 0xFE is stick 0,
--- and a byte in no range is a bad byte.
+-- The report that a first byte opens in document 01, with the row that K13 adds: one decision by ranges, in which bit 1 is left and bit 0
+-- right, 0xFC is the time of day, 0xFE is stick 0, and a byte in no range is a bad byte.
 unfoldable pub kindOf : ℕ → Kind
 kindOf b =
     cond (between 0x01 0x75 b) (keyDownReport b)
     (cond (between 0x81 0xf5 b) (keyUpReport (b - 0x80))
     (cond (between 0xf7 0xf7 b) absoluteReport
     (cond (between 0xf8 0xfb b) (relativeReport (eqb (b / 2 % 2) 1) (eqb (b % 2) 1))
+    (cond (between 0xfc 0xfc b) timeReport
     (cond (between 0xfd 0xfd b) bothSticksReport
     (cond (between 0xfe 0xff b) (oneStickReport (b - 0xfe))
-    badByteReport)))))
+    badByteReport))))))
 
 -- The byte that a pod sends after power-up or reset where its self-test passed.
 abbrev pub selfTest : ℕ
@@ -56,6 +57,7 @@ lengthOf (keyDownReport key) = 1
 lengthOf (keyUpReport key) = 1
 lengthOf absoluteReport = 6
 lengthOf (relativeReport left right) = 3
+lengthOf timeReport = 7
 lengthOf bothSticksReport = 3
 lengthOf (oneStickReport which) = 2
 lengthOf selfTestReport = 1
@@ -65,7 +67,7 @@ lengthOf badByteReport = 1
 
 -- The number of places for held bytes: one fewer than the longest report has, since its last byte is never held.
 abbrev pub places : ℕ
-places = 5
+places = 6
 
 -- A state: whether it waits for "self-test passed", the bytes in all its places, and how many of them, from the first on, are used.
 -- What matters besides the wait is the list of the bytes held: `heldIn` reads it off a state, `holding` lays it out with 0 in the unused
@@ -109,20 +111,44 @@ abbrev pub zeros : List ℕ → Bool
 zeros [] = true
 zeros (b ∷ bs) = eqb b 0 && zeros bs
 
--- A state is well formed: it has its places, it holds 0 to 5 bytes, these begin a longer report, and unused places are 0. It may wait
+-- A state is well formed: it has its places, it holds 0 to 6 bytes, these begin a longer report, and unused places are 0. It may wait
 -- or not.
 unfoldable pub wellFormed : State → Bool
 wellFormed s = eqb (length (s .bytes)) places && (leb (s .count) places && (unfinished (heldIn s) && zeros (unusedIn s)))
 
+-- ---- the clock of K13
+
+-- A time of day: six clock bytes, as they stand on the line.
+pub record Clock : Type 0 where
+  pub year : ℕ
+  pub month : ℕ
+  pub day : ℕ
+  pub hour : ℕ
+  pub minute : ℕ
+  pub second : ℕ
+
+-- A clock byte is two decimal digits, packed: 0x59 is fifty-nine, and 0x5A is none.
+abbrev pub goodDigits : ℕ → Bool
+goodDigits b = leb (b / 16) 9 && leb (b % 16) 9
+
+-- Three clock bytes.
+abbrev pub goodThree : ℕ → ℕ → ℕ → Bool
+goodThree a b c = goodDigits a && (goodDigits b && goodDigits c)
+
+-- Each clock byte has two decimal digits; the ranges of months and hours are not judged.
+abbrev pub goodClock : Clock → Bool
+goodClock c = goodThree (c .year) (c .month) (c .day) && goodThree (c .hour) (c .minute) (c .second)
+
 -- ---- the answer
 
--- What a byte is answered: flags, x and y of an absolute report; left, right, dx and dy of a relative one; trigger and position of
--- stick 0 and of stick 1; the number of a single stick with its trigger and position.
+-- What a byte is answered: flags, x and y of an absolute report; left, right, dx and dy of a relative one; the time of day; trigger and
+-- position of stick 0 and of stick 1; the number of a single stick with its trigger and position.
 pub data Report : Type 0 where
   more : Report
   keyDown keyUp : ℕ → Report
   absolute : ℕ → ℕ → ℕ → Report
   relative : Bool → Bool → ℤ → ℤ → Report
+  timeOfDay : Clock → Report
   bothSticks : Bool → ℕ → Bool → ℕ → Report
   oneStick : ℕ → Bool → ℕ → Report
   selfTestPassed badByte badReport refused : Report
@@ -134,6 +160,7 @@ reportRefusal (keyDown key) = 0
 reportRefusal (keyUp key) = 0
 reportRefusal (absolute flags x y) = 0
 reportRefusal (relative left right dx dy) = 0
+reportRefusal (timeOfDay c) = 0
 reportRefusal (bothSticks t0 p0 t1 p1) = 0
 reportRefusal (oneStick which t p) = 0
 reportRefusal selfTestPassed = 0
@@ -152,6 +179,7 @@ reportNumbers (keyDown key) = pos key ∷ []
 reportNumbers (keyUp key) = pos key ∷ []
 reportNumbers (absolute flags x y) = pos flags ∷ pos x ∷ pos y ∷ []
 reportNumbers (relative left right dx dy) = digit left ∷ digit right ∷ dx ∷ dy ∷ []
+reportNumbers (timeOfDay c) = pos (c .year) ∷ pos (c .month) ∷ pos (c .day) ∷ pos (c .hour) ∷ pos (c .minute) ∷ pos (c .second) ∷ []
 reportNumbers (bothSticks t0 p0 t1 p1) = digit t0 ∷ pos p0 ∷ digit t1 ∷ pos p1 ∷ []
 reportNumbers (oneStick which t p) = pos which ∷ digit t ∷ pos p ∷ []
 reportNumbers selfTestPassed = []
@@ -166,6 +194,7 @@ ends (keyDown key) = true
 ends (keyUp key) = true
 ends (absolute flags x y) = true
 ends (relative left right dx dy) = true
+ends (timeOfDay c) = true
 ends (bothSticks t0 p0 t1 p1) = true
 ends (oneStick which t p) = true
 ends selfTestPassed = true
@@ -180,6 +209,7 @@ passed (keyDown key) = false
 passed (keyUp key) = false
 passed (absolute flags x y) = false
 passed (relative left right dx dy) = false
+passed (timeOfDay c) = false
 passed (bothSticks t0 p0 t1 p1) = false
 passed (oneStick which t p) = false
 passed selfTestPassed = true
@@ -221,6 +251,10 @@ position b = b % 16
 abbrev pub judgedAbsolute : ℕ → ℕ → ℕ → Report
 judgedAbsolute flags x y = cond (goodFlags flags) (absolute flags x y) badReport
 
+-- A report of the time of day: a wrong digit makes it bad.
+abbrev pub judgedTime : Clock → Report
+judgedTime c = cond (goodClock c) (timeOfDay c) badReport
+
 -- A report of both sticks, by their stick bytes: a set bit 4, 5 or 6 in one of them makes it bad.
 abbrev pub judgedBoth : ℕ → ℕ → Report
 judgedBoth s0 s1 = cond (goodStick s0 && goodStick s1) (bothSticks (trigger s0) (position s0) (trigger s1) (position s1)) badReport
@@ -233,12 +267,24 @@ judgedStick which s = cond (goodStick s) (oneStick which (trigger s) (position s
 abbrev pub byteAt : List ℕ → ℕ → ℕ
 byteAt report i = getD report i 0
 
+-- The clock of six bytes after the first.
+abbrev pub clockIn : List ℕ → Clock
+clockIn r = record {
+  year = byteAt r 1;
+  month = byteAt r 2;
+  day = byteAt r 3;
+  hour = byteAt r 4;
+  minute = byteAt r 5;
+  second = byteAt r 6;
+}
+
 -- A whole report of a kind, by its bytes.
 abbrev pub judged : Kind → List ℕ → Report
 judged (keyDownReport key) r = keyDown key
 judged (keyUpReport key) r = keyUp key
 judged absoluteReport r = judgedAbsolute (byteAt r 1) (word (byteAt r 2) (byteAt r 3)) (word (byteAt r 4) (byteAt r 5))
 judged (relativeReport left right) r = relative left right (signed (byteAt r 1)) (signed (byteAt r 2))
+judged timeReport r = judgedTime (clockIn r)
 judged bothSticksReport r = judgedBoth (byteAt r 1) (byteAt r 2)
 judged (oneStickReport which) r = judgedStick which (byteAt r 1)
 judged selfTestReport r = selfTestPassed
@@ -305,6 +351,7 @@ told (keyDown key) = keyDown key ∷ []
 told (keyUp key) = keyUp key ∷ []
 told (absolute flags x y) = absolute flags x y ∷ []
 told (relative left right dx dy) = relative left right dx dy ∷ []
+told (timeOfDay c) = timeOfDay c ∷ []
 told (bothSticks t0 p0 t1 p1) = bothSticks t0 p0 t1 p1 ∷ []
 told (oneStick which t p) = oneStick which t p ∷ []
 told selfTestPassed = selfTestPassed ∷ []

@@ -13,7 +13,7 @@ use mir.Syntax.{w8}
 use mir.Val.{toZ}
 use Rattle.model.proofs.Bools.{by-sign}
 use Rattle.model.specs.Pod as M
-use Rattle.model.specs.Pod.{kindOf, lengthOf, places, unfinished, firstOf, Report, relative, byteAt, signed, word}
+use Rattle.model.specs.Pod.{kindOf, lengthOf, places, unfinished, firstOf, Report, relative, byteAt, clockIn, signed, word}
 use Rattle.model.specs.Pod.{judged, judgedAbsolute, judgedBoth, judgedStick, absoluteReport, relativeReport, bothSticksReport, oneStickReport}
 use Rattle.pod.specs.declared.PodState.{PodState}
 use Rattle.pod.specs.declared.PodAnswer.{PodAnswer}
@@ -43,6 +43,20 @@ module _ (l : List ℕ) (b : ℕ) (h : length l ≡ places) where
   whole-absolute =
       let at = held-at l b 5 (omega arith) in
       rw (at 1 (omega arith), at 2 (omega arith), at 3 (omega arith), at 4 (omega arith), last-at l b 5 (omega arith))
+
+  -- The clock of a whole report of the time of day, read off the places.
+  pub whole-clock : clockIn (take 6 l ++ b ∷ [])
+      ≡ record { year = getD l 1 0; month = getD l 2 0; day = getD l 3 0; hour = getD l 4 0; minute = getD l 5 0; second = b }
+  whole-clock =
+      let at = held-at l b 6 (omega arith) in
+      rw (
+        at 1 (omega arith),
+        at 2 (omega arith),
+        at 3 (omega arith),
+        at 4 (omega arith),
+        at 5 (omega arith),
+        last-at l b 6 (omega arith),
+      )
 
   -- What is made of the last two bytes of three is made of a place and the last byte.
   of-three : (f : ℕ → ℕ → Report) → f (byteAt (take 2 l ++ b ∷ []) 1) (byteAt (take 2 l ++ b ∷ []) 2) ≡ f (getD l 1 0) b
@@ -88,6 +102,7 @@ report-seen (M.keyDown key) = refl
 report-seen (M.keyUp key) = refl
 report-seen (M.absolute flags x y) = refl
 report-seen (M.relative left right dx dy) = refl
+report-seen (M.timeOfDay c) = refl
 report-seen (M.bothSticks t0 p0 t1 p1) = refl
 report-seen (M.oneStick which t p) = refl
 report-seen M.selfTestPassed = refl

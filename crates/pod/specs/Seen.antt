@@ -8,6 +8,7 @@ use Rattle.model.specs.Pod as M
 use Rattle.pod.specs.declared.PodState.{PodState}
 use Rattle.pod.specs.declared.Kind.{Kind}
 use Rattle.pod.specs.declared.Kind.the-variants as K
+use Rattle.pod.specs.declared.Clock.{Clock}
 use Rattle.pod.specs.declared.Stick.{Stick}
 use Rattle.pod.specs.declared.Report.{Report}
 use Rattle.pod.specs.declared.Report.the-variants as R
@@ -19,6 +20,7 @@ kindSeen (K.KeyDown key) = M.keyDownReport key
 kindSeen (K.KeyUp key) = M.keyUpReport key
 kindSeen K.Absolute = M.absoluteReport
 kindSeen (K.Relative left right) = M.relativeReport left right
+kindSeen K.TimeOfDay = M.timeReport
 kindSeen K.BothSticks = M.bothSticksReport
 kindSeen (K.OneStick which) = M.oneStickReport which
 kindSeen K.SelfTest = M.selfTestReport
@@ -32,6 +34,14 @@ seen s = record { waits = s .waits; bytes = s .bytes; count = s .count }
 abbrev pub held : M.State → PodState
 held s = record { waits = s .waits; bytes = s .bytes; count = s .count }
 
+-- A clock as the model's.
+abbrev pub clockSeen : Clock → M.Clock
+clockSeen c = record { year = c .year; month = c .month; day = c .day; hour = c .hour; minute = c .minute; second = c .second }
+
+-- The model's clock as a struct.
+abbrev pub heldClock : M.Clock → Clock
+heldClock c = record { year = c .year; month = c .month; day = c .day; hour = c .hour; minute = c .minute; second = c .second }
+
 -- A stick byte as a struct.
 abbrev pub heldStick : ℕ → Stick
 heldStick b = record { trigger = M.trigger b; position = M.position b }
@@ -43,6 +53,7 @@ heldReport (M.keyDown key) = R.KeyDown (record { key = key })
 heldReport (M.keyUp key) = R.KeyUp (record { key = key })
 heldReport (M.absolute flags x y) = R.Absolute (record { flags = flags; x = x; y = y })
 heldReport (M.relative left right dx dy) = R.Relative (record { left = left; right = right; dx = dx; dy = dy })
+heldReport (M.timeOfDay c) = R.TimeOfDay (record { clock = heldClock c })
 heldReport (M.bothSticks t0 p0 t1 p1) =
     R.BothSticks (record { stick0 = record { trigger = t0; position = p0 }; stick1 = record { trigger = t1; position = p1 } })
 heldReport (M.oneStick which t p) = R.OneStick (record { which = which; stick = record { trigger = t; position = p } })
@@ -58,6 +69,7 @@ reportSeen (R.KeyDown r) = M.keyDown (r .key)
 reportSeen (R.KeyUp r) = M.keyUp (r .key)
 reportSeen (R.Absolute r) = M.absolute (r .flags) (r .x) (r .y)
 reportSeen (R.Relative r) = M.relative (r .left) (r .right) (r .dx) (r .dy)
+reportSeen (R.TimeOfDay r) = M.timeOfDay (clockSeen (r .clock))
 reportSeen (R.BothSticks r) = M.bothSticks (r .stick0 .trigger) (r .stick0 .position) (r .stick1 .trigger) (r .stick1 .position)
 reportSeen (R.OneStick r) = M.oneStick (r .which) (r .stick .trigger) (r .stick .position)
 reportSeen (R.SelfTestPassed r) = M.selfTestPassed

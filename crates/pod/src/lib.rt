@@ -1,15 +1,15 @@
-// The pod reader of document 01, "Pod reports", with 02's K3: one byte at a time, the state holds the unfinished report and knows whether
-// it waits for "self-test passed". Called by show_pod and by a host; `PodState::fresh` and `step` are the public functions, neither requires
-// anything, and what they answer is the model's.
+// The pod reader of document 01, "Pod reports", with 02's K3 and K13's report of the time of day: one byte at a time, the state holds the
+// unfinished report and knows whether it waits for "self-test passed". Called by show_pod and by a host; `PodState::fresh` and `step` are the
+// public functions, neither requires anything, and what they answer is the model's. `well_formed` and `clock_ok` are public for `commands`.
 ghost use mathlib.Core.Path.{_≡_};
 ghost use mathlib.Core.List.{_∷_, [], _++_};
 ghost use Prim.Native.Nat.{_-_, _≤_};
 ghost use lib.ListN.{take, drop};
-ghost use Rattle.model.specs.Pod.{kindOf, amended, lengthOf, places, heldIn, emptied, unfinished, zeros, wellFormed, waitsAfter, relative, word, signed, goodStick, judgedAbsolute, judgedBoth, judgedStick, judged, firstOf};
-ghost use Rattle.pod.specs.Seen.{kindSeen, seen, held, heldStick, heldReport, reportSeen, freshState, AnswersAs};
+ghost use Rattle.model.specs.Pod.{kindOf, amended, lengthOf, places, heldIn, emptied, unfinished, zeros, wellFormed, waitsAfter, relative, word, signed, goodDigits, goodThree, goodClock, goodStick, judgedAbsolute, judgedTime, judgedBoth, judgedStick, judged, clockIn, firstOf};
+ghost use Rattle.pod.specs.Seen.{kindSeen, seen, held, clockSeen, heldClock, heldStick, heldReport, reportSeen, freshState, AnswersAs};
 
 // One fewer than the longest report has bytes, since its last byte is never held.
-pub const PLACES: usize = 5;
+pub const PLACES: usize = 6;
 
 // What a pod sends after power-up or reset where its self-test passed. Later it is key 0x70 coming up.
 const SELF_TEST: u8 = 0xf0;
@@ -58,6 +58,26 @@ impl Relative {
     pub const LENGTH: usize = 3;
 }
 
+// Six clock bytes as they stand on the line: two decimal digits each, packed.
+pub struct Clock {
+    pub year: u8,
+    pub month: u8,
+    pub day: u8,
+    pub hour: u8,
+    pub minute: u8,
+    pub second: u8,
+}
+
+const MOST_DIGIT: u8 = 9;
+
+pub struct TimeOfDay {
+    pub clock: Clock,
+}
+
+impl TimeOfDay {
+    pub const LENGTH: usize = 7;
+}
+
 pub struct Stick {
     pub trigger: bool,
     pub position: u8,
@@ -100,6 +120,7 @@ pub enum Report {
     KeyUp(KeyUp),
     Absolute(Absolute),
     Relative(Relative),
+    TimeOfDay(TimeOfDay),
     BothSticks(BothSticks),
     OneStick(OneStick),
     SelfTestPassed(SelfTestPassed),
@@ -120,6 +141,7 @@ enum Kind {
     KeyUp(u8),
     Absolute,
     Relative(bool, bool),
+    TimeOfDay,
     BothSticks,
     OneStick(u8),
     SelfTest,
@@ -155,6 +177,7 @@ fn kind_of(first: u8) -> Kind
         0x81..=0xf5 => Kind::KeyUp(first - 0x80),
         0xf7 => Kind::Absolute,
         0xf8..=0xfb => Kind::Relative(first / 2 % 2 == 1, first % 2 == 1),
+        0xfc => Kind::TimeOfDay,
         0xfd => Kind::BothSticks,
         0xfe..=0xff => Kind::OneStick(first - 0xfe),
         _ => Kind::BadByte,
@@ -182,6 +205,7 @@ fn length_of(kind: Kind) -> usize
         Kind::KeyUp(_) => KeyUp::LENGTH,
         Kind::Absolute => Absolute::LENGTH,
         Kind::Relative(_, _) => Relative::LENGTH,
+        Kind::TimeOfDay => TimeOfDay::LENGTH,
         Kind::BothSticks => BothSticks::LENGTH,
         Kind::OneStick(_) => OneStick::LENGTH,
         Kind::SelfTest => SelfTestPassed::LENGTH,
@@ -203,6 +227,38 @@ fn join(high: u8, low: u8) -> u16
     ensures { λ r. ⌜ r ≡ word high low ⌝ }
 {
     256 * (high as u16) + (low as u16)
+}
+
+// Two decimal digits.
+fn digits_ok(b: u8) -> bool
+    ensures { λ r. ⌜ r ≡ goodDigits b ⌝ }
+{
+    if MOST_DIGIT < b / 16 {
+        return false;
+    }
+    b % 16 <= MOST_DIGIT
+}
+
+fn three_ok(a: u8, b: u8, c: u8) -> bool
+    ensures { λ r. ⌜ r ≡ goodThree a b c ⌝ }
+{
+    if !digits_ok(a) {
+        return false;
+    }
+    if !digits_ok(b) {
+        return false;
+    }
+    digits_ok(c)
+}
+
+// Every clock byte is two decimal digits; no month or hour is judged.
+pub fn clock_ok(clock: Clock) -> bool
+    ensures { λ r. ⌜ r ≡ goodClock (clockSeen clock) ⌝ }
+{
+    if !three_ok(clock.year, clock.month, clock.day) {
+        return false;
+    }
+    three_ok(clock.hour, clock.minute, clock.second)
 }
 
 // Whether a stick byte is x000yyyy.
@@ -243,6 +299,29 @@ fn relative_of(left: bool, right: bool, dx: u8, dy: u8) -> Report
     })
 }
 
+fn judge_time(clock: Clock) -> Report
+    ensures { λ r. ⌜ r ≡ heldReport (judgedTime (clockSeen clock)) ⌝ }
+{
+    if !clock_ok(clock) {
+        return Report::BadReport;
+    }
+    Report::TimeOfDay(TimeOfDay { clock })
+}
+
+// The clock of a whole report: the places after the first, and the last byte.
+fn clock_of(bytes: [u8; PLACES], last: u8) -> Clock
+    ensures { λ r. ⌜ r ≡ heldClock (clockIn (take places bytes ++ last ∷ [])) ⌝ }
+{
+    Clock {
+        year: bytes[1],
+        month: bytes[2],
+        day: bytes[3],
+        hour: bytes[4],
+        minute: bytes[5],
+        second: last,
+    }
+}
+
 fn judge_both(s0: u8, s1: u8) -> Report
     ensures { λ r. ⌜ r ≡ heldReport (judgedBoth s0 s1) ⌝ }
 {
@@ -280,6 +359,7 @@ fn judge(kind: Kind, bytes: [u8; PLACES], last: u8) -> Report
             judge_absolute(bytes[1], x, y)
         }
         Kind::Relative(left, right) => relative_of(left, right, bytes[1], last),
+        Kind::TimeOfDay => judge_time(clock_of(bytes, last)),
         Kind::BothSticks => judge_both(bytes[1], last),
         Kind::OneStick(which) => judge_stick(which, last),
         Kind::SelfTest => Report::SelfTestPassed(SelfTestPassed {}),
@@ -311,7 +391,7 @@ fn begun(bytes: [u8; PLACES], count: usize) -> bool
     count < length_of(kind_of(bytes[0]))
 }
 
-fn well_formed(state: PodState) -> bool
+pub fn well_formed(state: PodState) -> bool
     ensures { λ r. ⌜ r ≡ wellFormed (seen state) ⌝ }
 {
     let count = state.count;
@@ -344,6 +424,7 @@ fn waits_after(waits: bool, report: Report) -> bool
         Report::KeyUp(_) => waits,
         Report::Absolute(_) => waits,
         Report::Relative(_) => waits,
+        Report::TimeOfDay(_) => waits,
         Report::BothSticks(_) => waits,
         Report::OneStick(_) => waits,
         Report::SelfTestPassed(_) => false,

@@ -6,11 +6,13 @@ use panel::Setup;
 use panel::Slot;
 use pod::Absolute;
 use pod::BothSticks;
+use pod::Clock;
 use pod::OneStick;
 use pod::PodState;
 use pod::Relative;
 use pod::Report;
 use pod::Stick;
+use pod::TimeOfDay;
 use stream::Out;
 
 // A number after a blank.
@@ -76,6 +78,30 @@ fn say_one(page: &mut [u8], out: Out, r: OneStick) -> Out {
     say_stick(page, a, stick)
 }
 
+// A clock byte's two digits after a blank.
+fn say_digits(page: &mut [u8], out: Out, b: u8) -> Out {
+    let a = say_number(page, out, (b / 16) as u64);
+    stream::say_number(page, a, (b % 16) as u64)
+}
+
+fn say_three(page: &mut [u8], out: Out, a: u8, b: u8, c: u8) -> Out {
+    let d = say_digits(page, out, a);
+    let e = say_digits(page, d, b);
+    say_digits(page, e, c)
+}
+
+// A clock's twelve digits after its name.
+pub fn say_clock(page: &mut [u8], out: Out, name: &[u8], c: Clock) -> Out {
+    let a = stream::say(page, out, name);
+    let b = say_three(page, a, c.year, c.month, c.day);
+    say_three(page, b, c.hour, c.minute, c.second)
+}
+
+fn say_time(page: &mut [u8], out: Out, r: TimeOfDay) -> Out {
+    let clock = r.clock;
+    say_clock(page, out, b"time", clock)
+}
+
 // An answer's words, "more" too, without a line's end.
 pub fn say_report(page: &mut [u8], out: Out, report: Report) -> Out {
     match report {
@@ -84,6 +110,7 @@ pub fn say_report(page: &mut [u8], out: Out, report: Report) -> Out {
         Report::KeyUp(r) => say_part(page, out, b"up", r.key as u64),
         Report::Absolute(r) => say_absolute(page, out, r),
         Report::Relative(r) => say_relative(page, out, r),
+        Report::TimeOfDay(r) => say_time(page, out, r),
         Report::BothSticks(r) => say_both(page, out, r),
         Report::OneStick(r) => say_one(page, out, r),
         Report::SelfTestPassed(_) => stream::say(page, out, b"self-test passed"),
@@ -100,6 +127,7 @@ fn is_more(report: Report) -> bool {
         Report::KeyUp(_) => false,
         Report::Absolute(_) => false,
         Report::Relative(_) => false,
+        Report::TimeOfDay(_) => false,
         Report::BothSticks(_) => false,
         Report::OneStick(_) => false,
         Report::SelfTestPassed(_) => false,

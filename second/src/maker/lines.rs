@@ -1,9 +1,11 @@
 //! Lines that are no call: one thing is wrong with each.
 
 use super::Maker;
+use crate::commands::Command;
 use crate::script::{head_numbers, reader_numbers, setup_numbers};
 use crate::script::{
-    Call, ForceCall, RecorderCall, CRANE, FORCE, PIECES, PIECES_NUMBERS, POD_NUMBERS, RECORDER, WRITER_NUMBERS,
+    Call, CommandsCall, ForceCall, RecorderCall, COMMANDS, CRANE, FORCE, PIECES, PIECES_NUMBERS, POD_NUMBERS, RECORDER,
+    WRITER_NUMBERS,
 };
 use crate::table::Layout;
 
@@ -15,6 +17,7 @@ const NO_SIGNED_32: Outside = &["2147483648", "-2147483649", "4294967295", "-429
 const NO_16_BITS: Outside = &["65536", "-1", "65539"];
 const NO_SIGNED_16: Outside = &["32768", "-32769", "65535", "-65536"];
 const NO_SIGNED_BYTE: Outside = &["128", "-129", "255", "-256"];
+const NO_COMMAND: Outside = &["10", "10", "11", "-1", "256", "4294967296"];
 const NO_BYTE: Outside = &["256", "-1", "257"];
 const NO_MODE: Outside = &["3", "3", "-1", "256", "4294967296"];
 const NO_WAITS: Outside = &["2", "2", "3", "-1", "256", "257", "4294967296", "4294967297"];
@@ -150,6 +153,9 @@ impl Maker {
         if let Some(name) = name.strip_prefix(FORCE) {
             return self.random.pick(&["forces_", "force", "force-", "pieces_", ""]).to_string() + name;
         }
+        if let Some(name) = name.strip_prefix(COMMANDS) {
+            return self.random.pick(&["command_", "commands", "commands-", "pod_", ""]).to_string() + name;
+        }
         match (call.layout(), name.strip_prefix(CRANE)) {
             (None, _) => format!("{CRANE}{name}"),
             (_, Some(name)) => {
@@ -195,7 +201,9 @@ impl Maker {
         let layout = call.layout().unwrap_or(Layout::Panel);
         let setup = (1..=setup_numbers(layout)).map(|place| (place, if place == 1 { NO_64_BITS } else { NO_32_BITS }));
         let (tables, last_of_head) = match call {
-            Call::Start | Call::Pod { .. } | Call::Recorder(_) | Call::Force(_) => return Vec::new(),
+            Call::Start | Call::Pod { .. } | Call::Recorder(_) | Call::Force(_) | Call::Commands(_) => {
+                return Vec::new()
+            }
             Call::Fresh(..) | Call::New(_) | Call::PiecesFresh(_) => return setup.collect(),
             Call::Write { .. } => (1, vec![NO_32_BITS]),
             _ => (2, vec![NO_MODE, NO_MODE]),
@@ -238,6 +246,7 @@ impl Maker {
             }
             Call::Recorder(call) => recorder_places(call, last),
             Call::Force(call) => force_places(call, last),
+            Call::Commands(call) => commands_places(call, last),
             _ => Vec::new(),
         }
     }
@@ -257,9 +266,29 @@ fn fixed(call: &Call) -> usize {
         Call::Run { .. } | Call::Good { .. } => reader_numbers(layout),
         Call::Write { .. } => WRITER_NUMBERS + 2,
         Call::Recorder(RecorderCall::Lay { .. }) => 3,
-        Call::Recorder(_) | Call::Force(ForceCall::Read { .. }) => 1,
+        Call::Recorder(_) | Call::Force(ForceCall::Read { .. }) | Call::Commands(CommandsCall::Read { .. }) => 1,
         Call::Force(ForceCall::Write { .. }) => 8,
+        Call::Commands(CommandsCall::Write { .. }) => call.line().split(' ').count() - 1,
     }
+}
+
+/// Places of a call of commands, and what their types cannot hold.
+fn commands_places(call: &CommandsCall, last: usize) -> Vec<(usize, Outside)> {
+    const POSITION: usize = POD_NUMBERS + 1;
+    const COMMAND: usize = POSITION + 2;
+    let command = match call {
+        CommandsCall::Read { bytes, .. } if bytes.is_empty() => return vec![(1, NO_64_BITS)],
+        CommandsCall::Read { .. } => return vec![(1, NO_64_BITS), (last, NO_BYTE)],
+        CommandsCall::Write { command, .. } => command,
+    };
+    let mut places = vec![(1, NO_WAITS), (2, NO_64_BITS), (POD_NUMBERS, NO_BYTE)];
+    places.extend([(POSITION, NO_64_BITS), (POSITION + 1, NO_SIZE), (COMMAND, NO_COMMAND)]);
+    match command {
+        Command::Absolute { .. } | Command::Load { .. } => places.extend([(last - 1, NO_16_BITS), (last, NO_16_BITS)]),
+        _ if last > COMMAND => places.extend([(COMMAND + 1, NO_BYTE), (last, NO_BYTE)]),
+        _ => {}
+    }
+    places
 }
 
 /// Places of a force stick's call, and what their types cannot hold.
@@ -290,7 +319,8 @@ fn recorder_places(call: &RecorderCall, last: usize) -> Vec<(usize, Outside)> {
 /// Whether more numbers than that make it another call and no bad line.
 pub(super) fn takes_any_count(call: &Call) -> bool {
     let is_load = matches!(call, Call::Load { .. } | Call::PiecesLoad { .. });
-    let is_bytes = matches!(call, Call::Recorder(_) | Call::Force(ForceCall::Read { .. }));
+    let is_read = matches!(call, Call::Force(ForceCall::Read { .. }) | Call::Commands(CommandsCall::Read { .. }));
+    let is_bytes = is_read || matches!(call, Call::Recorder(_));
     is_load || is_bytes || matches!(call, Call::Run { .. } | Call::Write { .. } | Call::Pod { .. })
 }
 
@@ -316,6 +346,8 @@ fn other_word(call: &Call) -> String {
         Call::Recorder(RecorderCall::Read { .. }) => "recorder_run",
         Call::Force(ForceCall::Read { .. }) => "force_ready",
         Call::Force(ForceCall::Write { .. }) => "force_wrote",
+        Call::Commands(CommandsCall::Read { .. }) => "commands_ready",
+        Call::Commands(CommandsCall::Write { .. }) => "commands_wrote",
     };
     let prefix = if call.layout() == Some(Layout::Crane) { CRANE } else { "" };
     format!("{prefix}{word}")

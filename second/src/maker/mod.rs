@@ -1,6 +1,7 @@
 //! Seeded random scripts: calls of every kind, good, at the edges of every range, and broken in each way.
 
 mod broken;
+mod commands;
 mod events;
 mod force;
 mod forms;
@@ -126,6 +127,7 @@ impl Maker {
         match request {
             Request::Recorder => Call::Recorder(self.recorder_call()),
             Request::Force => Call::Force(self.force_call()),
+            Request::Commands => Call::Commands(self.commands_call()),
         }
     }
 

@@ -51,6 +51,7 @@ impl Maker {
             return match (pod.bytes[0], pod.held) {
                 (0xF7, 1) => self.random.pick(&[small, small, one_bit]),
                 (0xF7, _) => any,
+                (0xFC, _) => self.clock_byte(),
                 (0xF8..=0xFB, _) => self.random.pick(&[0x80, 0x7F, 0xFF, any]),
                 _ => self.random.pick(&[small, small, small | 0x80, one_bit, any]),
             };
@@ -70,13 +71,23 @@ impl Maker {
             return self.next_first_byte;
         }
         self.random.pick(&[
-            0xF7, 0xF7, 0xF7, 0xF8, 0xF9, 0xFA, 0xFB, 0xFD, 0xFD, 0xFD, 0xFE, 0xFE, 0xFF, 0xFF, 0x00, 0x76, 0x80, 0xF6,
-            0xFC,
+            0xF7, 0xF7, 0xF7, 0xF8, 0xF9, 0xFA, 0xFB, 0xFC, 0xFC, 0xFC, 0xFD, 0xFD, 0xFD, 0xFE, 0xFE, 0xFF, 0xFF, 0x00,
+            0x76, 0x80, 0xF6,
         ])
     }
 
+    /// Mostly two decimal digits; a wrong one alone makes a time bad.
+    fn clock_byte(&mut self) -> u8 {
+        let good = (self.random.below(10) << 4 | self.random.below(10)) as u8;
+        match self.random.below(16) {
+            0 => self.random.pick(&[0x0A, 0xA0, 0x5A, 0xFF, 0x9A]),
+            1 => self.random.pick(&[0x99, 0x90, 0x09]),
+            _ => good,
+        }
+    }
+
     pub(super) fn broken_pod(&mut self) -> Call {
-        let first = self.random.pick(&[0xF7, 0xF7, 0xF7, 0xF8, 0xF9, 0xFA, 0xFB, 0xFD, 0xFE, 0xFF]);
+        let first = self.random.pick(&[0xF7, 0xF7, 0xFC, 0xFC, 0xF8, 0xF9, 0xFA, 0xFB, 0xFD, 0xFE, 0xFF]);
         let mut pod = Pod { waits: self.random.once_in(2), held: self.random.below(length(first)), bytes: [0; PLACES] };
         if pod.held > 0 {
             pod.bytes[0] = first;
@@ -87,13 +98,13 @@ impl Maker {
         match self.random.below(4) {
             0 => {
                 self.tag("pod: held too many");
-                pod.held = self.random.pick(&[6, 6, 7, 255, (1 << 8) + pod.held, (1 << 32) + pod.held, u64::MAX]);
+                pod.held = self.random.pick(&[7, 7, 8, 255, (1 << 8) + pod.held, (1 << 32) + pod.held, u64::MAX]);
             }
             1 => {
                 self.tag("pod: held as many as the report is long");
-                let short = self.random.pick(&[0xF8, 0xFB, 0xFD, 0xFE, 0xFF]);
-                pod.held = self.random.from_to(length(short), 5);
-                pod.bytes = [short, 1, 0, 0, 0];
+                let short = self.random.pick(&[0xF8, 0xFB, 0xFD, 0xFE, 0xFF, 0xF7]);
+                pod.held = self.random.from_to(length(short), PLACES as u64);
+                pod.bytes = [short, 1, 0, 0, 0, 0];
             }
             2 => {
                 self.tag("pod: first byte opens nothing");
@@ -101,15 +112,15 @@ impl Maker {
                 if self.random.once_in(2) {
                     pod = Pod { held: 1, ..pod.without_bytes() };
                 }
-                pod.bytes[0] = self.random.pick(&[0, 1, 0x75, 0x80, 0x81, SELF_TEST, SELF_TEST, 0xF5, 0xF6, 0xFC]);
+                pod.bytes[0] = self.random.pick(&[0, 1, 0x75, 0x80, 0x81, SELF_TEST, SELF_TEST, 0xF5, 0xF6]);
             }
             _ => {
                 self.tag("pod: unused place not 0");
-                let place = self.random.from_to(pod.held, 5) as usize;
-                if place < 5 {
+                let place = self.random.from_to(pod.held, PLACES as u64) as usize;
+                if place < PLACES {
                     pod.bytes[place] = self.random.from_to(1, 255) as u8;
                 } else {
-                    pod = Pod { held: 0, bytes: [0xF8, 0, 0, 0, 0], ..pod };
+                    pod = Pod { held: 0, bytes: [0xF8, 0, 0, 0, 0, 0], ..pod };
                 }
             }
         }

@@ -196,11 +196,30 @@ const FORCE: &[&str] = &[
     "force: hat over 15",
 ];
 
+/// What is tried with commands to the pod.
+const COMMANDS: &[&str] = &[
+    "commands: a good command",
+    "commands: button action over 4",
+    "commands: threshold 0",
+    "commands: scale 0",
+    "commands: a wrong digit",
+    "commands: a filler that is not 0",
+    "commands: 80 and another byte",
+    "commands: any first byte",
+    "commands: a report is held",
+    "commands: bytes cut",
+    "commands: from the middle",
+    "commands: at the end",
+    "commands: past the end",
+    "commands: position near 2^64",
+];
+
 /// What is tried with a request that `drive` did not always know.
 fn later(request: Request) -> &'static [&'static str] {
     match request {
         Request::Recorder => RECORDER,
         Request::Force => FORCE,
+        Request::Commands => COMMANDS,
     }
 }
 

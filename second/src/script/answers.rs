@@ -2,6 +2,7 @@
 
 use std::fmt;
 
+use super::commands::Digits;
 use super::line::Line;
 use super::{marks, Call, Cut};
 use crate::pieces::PieceReader;
@@ -54,6 +55,7 @@ impl Call {
             Call::Pod { pod, bytes } => line.reports(*pod, bytes),
             Call::Recorder(call) => call.answer(&mut line),
             Call::Force(call) => call.answer(&mut line),
+            Call::Commands(call) => call.answer(&mut line),
         }
         line.text()
     }
@@ -137,6 +139,7 @@ impl fmt::Display for InWords {
                 write!(f, "sticks {} {} {} {}", zero.trigger as u8, zero.position, one.trigger as u8, one.position)
             }
             Report::Stick { which, stick } => write!(f, "stick {which} {} {}", stick.trigger as u8, stick.position),
+            Report::Time(clock) => write!(f, "time {}", Digits(clock)),
             Report::BadByte => f.write_str("bad byte"),
             Report::BadReport => f.write_str("bad report"),
         }

@@ -1,6 +1,7 @@
 //! Scripts of calls in the format of docs/DRIVE.md: a line read, written, and answered.
 
 mod answers;
+mod commands;
 mod force;
 mod line;
 mod numbers;
@@ -9,6 +10,7 @@ mod recorder;
 mod tests;
 
 pub use answers::InWords;
+pub use commands::{CommandInWords, CommandsCall, COMMANDS};
 pub use force::{ForceCall, FORCE};
 pub use recorder::{RecorderCall, RECORDER};
 
@@ -84,6 +86,7 @@ pub enum Call {
     Pod { pod: Pod, bytes: Vec<u8> },
     Recorder(RecorderCall),
     Force(ForceCall),
+    Commands(CommandsCall),
 }
 
 /// A string of bytes and the lengths of the pieces that it is cut into, which together are its own.
@@ -156,6 +159,9 @@ impl Call {
                 Call::Recorder(RecorderCall::parse(name, &mut numbers)?)
             }
             (Layout::Panel, _) if name.starts_with(FORCE) => Call::Force(ForceCall::parse(name, &mut numbers)?),
+            (Layout::Panel, _) if name.starts_with(COMMANDS) => {
+                Call::Commands(CommandsCall::parse(name, &mut numbers)?)
+            }
             _ => numbers.reader_call(layout, name)?,
         };
         numbers.is_done().then_some(call)
@@ -210,6 +216,7 @@ impl Call {
             Call::Pod { .. } => "pod",
             Call::Recorder(call) => call.name(),
             Call::Force(call) => call.name(),
+            Call::Commands(call) => call.name(),
         };
         let prefix = if self.layout() == Some(Layout::Crane) { CRANE } else { "" };
         format!("{prefix}{name}")
@@ -226,7 +233,7 @@ impl Call {
             }
             Call::Write { writer, .. } => line.writer(writer),
             Call::Pod { pod, .. } => line.pod(pod),
-            Call::Start | Call::Recorder(_) | Call::Force(_) => {}
+            Call::Start | Call::Recorder(_) | Call::Force(_) | Call::Commands(_) => {}
             Call::Run { reader, .. }
             | Call::One { reader, .. }
             | Call::Load { reader, .. }
@@ -262,6 +269,7 @@ impl Call {
             }
             Call::Recorder(call) => call.put(line),
             Call::Force(call) => call.put(line),
+            Call::Commands(call) => call.put(line),
             Call::Fresh(..) | Call::New(_) | Call::Good { .. } | Call::PiecesFresh(_) | Call::Start => {}
         }
     }

@@ -153,7 +153,7 @@ impl Numbers {
         })
     }
 
-    fn pod(&mut self) -> Option<Pod> {
+    pub(super) fn pod(&mut self) -> Option<Pod> {
         let waits = match self.0.next()? {
             0 => false,
             1 => true,

@@ -166,6 +166,43 @@ fn blocks_made_laid_and_read() {
 }
 
 #[test]
+fn commands_read_and_written() {
+    for (line, said) in [
+        ("commands_read 0 128 1 8", "2 reset"),
+        ("commands_read 0 27 153 18 49 0 9 89", "7 set clock 99 12 31 00 09 59"),
+        ("commands_read 0 14 0 1 2 3 4", "6 load 258 772"),
+        ("commands_read 0 128 2", "2 lost"),
+        ("commands_read 1 8 10", "2 not for us"),
+        ("commands_read 0 7 5", "2 refused 11"),
+        ("commands_read 1 8 7", "1 unfinished"),
+        ("commands_read 9 8", "1 nothing"),
+        ("commands_write 0 1 248 0 0 0 0 0 1 4 0", "0 1 0 0 0 0 0 0 0 0 : 11 128 1 122"),
+        ("commands_write 0 1 248 0 0 0 0 0 0 1 2", "0 0 1 248 0 0 0 0 0 0 : 8"),
+        ("commands_write 0 1 248 0 0 0 0 0 0 0 9", "5 0 1 248 0 0 0 0 0 1 :"),
+        ("commands_write 0 1 248 0 0 0 0 0 0 2 1 5", "11 0 1 248 0 0 0 0 0 0 : 11 48"),
+        ("commands_write 0 1 0 0 0 0 0 0 0 2 1 5", "2 0 1 0 0 0 0 0 0 0 : 11 48"),
+        ("pod 1 6 252 153 18 49 0 9 89", "1 0 0 0 0 0 0 0 time 99 12 31 00 09 59"),
+    ] {
+        assert_eq!(answer(line), said, "{line}");
+    }
+    for line in [
+        "commands_read",
+        "commands_read 0 256",
+        "commands_write 1 0 0 0 0 0 0 0 0 0",
+        "commands_write 1 0 0 0 0 0 0 0 0 0 10",
+        "commands_write 1 0 0 0 0 0 0 0 0 0 1",
+        "commands_write 1 0 0 0 0 0 0 0 0 0 1 256",
+        "commands_write 1 0 0 0 0 0 0 0 0 0 3 1 65536",
+        "commands_write 1 0 0 0 0 0 0 0 0 0 4 256 1",
+        "commands_write 1 0 0 0 0 0 0 0 0 0 8 0 0 0 0 0",
+        "commands_write 1 0 0 0 0 0 0 0 0 0 9 0",
+        "commands_write 2 0 0 0 0 0 0 0 0 0 9",
+    ] {
+        assert_eq!(answer(line), BAD_LINE, "{line}");
+    }
+}
+
+#[test]
 fn packets_read_and_written() {
     let packet = "43 1 8 1 0 254 255 3 164 101 249 25";
     for (line, said) in [
@@ -233,11 +270,11 @@ fn lines_that_are_no_call() {
         "pieces_fresh 1 2 3 4".to_string(),
         "pieces_".to_string(),
         "pieces_run 1 2 3 4 5 6".to_string(),
-        "pod 0 0 0 0 0 0 0 256".to_string(),
-        "pod 0 0 0 0 0 0 0".to_string(),
-        "pod 2 0 0 0 0 0 0 1".to_string(),
-        "pod -1 0 0 0 0 0 0 1".to_string(),
-        "pod 256 0 0 0 0 0 0 1".to_string(),
+        "pod 0 0 0 0 0 0 0 0 256".to_string(),
+        "pod 0 0 0 0 0 0 0 0".to_string(),
+        "pod 2 0 0 0 0 0 0 0 1".to_string(),
+        "pod -1 0 0 0 0 0 0 0 1".to_string(),
+        "pod 256 0 0 0 0 0 0 0 1".to_string(),
         "start 0".to_string(),
         format!("write 1 9 9 9 9 9 0 0 {table}0 4097 0 0 0 0 0 0"),
         format!("write 1 9 9 9 9 9 0 0 {table}0 0 0 0 0 0 0 2147483648"),
@@ -251,7 +288,7 @@ fn lines_that_are_no_call() {
     }
 }
 
-const NAMES: [&str; 25] = [
+const NAMES: [&str; 27] = [
     "fresh",
     "new",
     "run",
@@ -277,6 +314,8 @@ const NAMES: [&str; 25] = [
     "recorder_read",
     "force_read",
     "force_write",
+    "commands_read",
+    "commands_write",
 ];
 
 /// Numbers with which that name is a call.
@@ -293,10 +332,11 @@ fn numbers_for(name: &str) -> String {
         (_, "one") => format!("{reader}3 57 0"),
         (_, "load" | "ask") => format!("{reader}0"),
         (_, "write") => format!("1 9 9 9 9 9 0 0 {}0 0 0 0 0 0 0 0", empty()),
-        (_, "pod") => "0 0 0 0 0 0 0 1".to_string(),
+        (_, "pod") => "0 0 0 0 0 0 0 0 1".to_string(),
         (_, "pieces_fresh") => "1 2 3 4 5 6".to_string(),
         (_, "pieces_take") => format!("{reader}0 0 0 0 0 0 0 0 2 1 0 9"),
-        (_, "recorder_block" | "recorder_read" | "force_read") => "1".to_string(),
+        (_, "recorder_block" | "recorder_read" | "force_read" | "commands_read") => "1".to_string(),
+        (_, "commands_write") => "1 0 0 0 0 0 0 0 0 0 9".to_string(),
         (_, "force_write") => "0 0 0 0 0 0 0 12".to_string(),
         (_, "recorder_lay") => "1 0 0".to_string(),
         (_, "pieces_load" | "pieces_ask") => format!("{reader}0 0 0 0 0 0 0 0 0"),
@@ -329,10 +369,10 @@ fn spaces_and_zeros_too_many() {
     assert_eq!(answer(" fresh 01 2 3 4 5 6 "), answer("fresh 1 2 3 4 5 6"));
     assert_eq!(answer("new -0 2 3 4 5 6"), answer("new 0 2 3 4 5 6"));
     assert_eq!(answer("  crane_fresh 01 2 3 -0 "), answer("crane_fresh 1 2 3 0"));
-    assert_eq!(answer("pod 0 0 0 0 0 0 0 1"), "0 0 0 0 0 0 0 down 1");
-    assert_eq!(answer("pod 1 1 255 0 0 0 0 16 245"), "1 0 0 0 0 0 0 bad report / 1 0 0 0 0 0 0 up 117");
-    assert_eq!(answer("pod 1 0 0 0 0 0 0 240 240"), "0 0 0 0 0 0 0 self-test passed / 0 0 0 0 0 0 0 up 112");
-    assert_eq!(answer("start"), "1 0 0 0 0 0 0");
+    assert_eq!(answer("pod 0 0 0 0 0 0 0 0 1"), "0 0 0 0 0 0 0 0 down 1");
+    assert_eq!(answer("pod 1 1 255 0 0 0 0 0 16 245"), "1 0 0 0 0 0 0 0 bad report / 1 0 0 0 0 0 0 0 up 117");
+    assert_eq!(answer("pod 1 0 0 0 0 0 0 0 240 240"), "0 0 0 0 0 0 0 0 self-test passed / 0 0 0 0 0 0 0 0 up 112");
+    assert_eq!(answer("start"), "1 0 0 0 0 0 0 0");
     let full = MOST_NUMBERS - reader_numbers(Layout::Panel);
     assert!(answer(&format!("run {}{}", numbers_for("run"), "0 ".repeat(full))).starts_with('0'));
     assert_eq!(answer(&format!("run {}{}", numbers_for("run"), "0 ".repeat(full + 1))), BAD_LINE);

@@ -166,9 +166,11 @@ const OTHERS: &[&str] = &[
     "pod sticks",
     "pod stick 0",
     "pod stick 1",
+    "pod time",
     "pod bad byte",
     "pod bad report",
     "pod refused 2",
+    "pod: a wrong digit of the time",
     "pod: key 112 up",
     "pod: dx -128",
     "pod: dy -128",
@@ -232,11 +234,53 @@ const FORCE: &[&str] = &[
     "force_write: buttons of both bytes",
 ];
 
+/// Of commands to the pod.
+const COMMANDS: &[&str] = &[
+    "commands_read reset",
+    "commands_read buttons",
+    "commands_read relative",
+    "commands_read absolute",
+    "commands_read threshold",
+    "commands_read scale",
+    "commands_read where",
+    "commands_read load",
+    "commands_read set clock",
+    "commands_read ask clock",
+    "commands_read lost",
+    "commands_read not for us",
+    "commands_read refused 11",
+    "commands_read unfinished",
+    "commands_read nothing",
+    "commands_read: nothing past the end",
+    "commands_write 0",
+    "commands_write 2",
+    "commands_write 5",
+    "commands_write 11",
+    "commands_write: reset accepted",
+    "commands_write: buttons accepted",
+    "commands_write: relative accepted",
+    "commands_write: absolute accepted",
+    "commands_write: threshold accepted",
+    "commands_write: scale accepted",
+    "commands_write: where accepted",
+    "commands_write: load accepted",
+    "commands_write: set clock accepted",
+    "commands_write: ask clock accepted",
+    "commands_write: buttons refused",
+    "commands_write: threshold refused",
+    "commands_write: scale refused",
+    "commands_write: set clock refused",
+    "commands_write: a reset changes the pod",
+    "commands_write: no room for a bad command",
+    "commands_write: no room, need 7",
+];
+
 /// Of a request that `drive` did not always know.
 fn later(request: Request) -> &'static [&'static str] {
     match request {
         Request::Recorder => RECORDER,
         Request::Force => FORCE,
+        Request::Commands => COMMANDS,
     }
 }
 

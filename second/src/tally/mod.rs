@@ -1,5 +1,6 @@
 //! What a script and its answers showed: how often each verdict, mode, count and answer occurred, and what never did.
 
+mod commands;
 mod expected;
 mod force;
 mod pieces;
@@ -13,6 +14,7 @@ mod writing;
 use std::collections::BTreeMap;
 
 use crate::maker::tried;
+use crate::pod::Pod;
 use crate::reader::Mode;
 use crate::requests::Request;
 use crate::script::{is_passed_over, lines_of, Call, BAD_LINE, POD_NUMBERS};
@@ -92,7 +94,8 @@ impl Tally {
         match &call {
             Call::Ask { .. } | Call::PiecesAsk { .. } if verdict != "contact" => self.note(format!("{name} {answer}")),
             Call::PiecesTake { pieces, cut } => self.count_pieces(pieces, cut, answer),
-            Call::Pod { .. } => answer.split(" / ").for_each(|step| self.count_step(step)),
+            Call::Pod { pod, bytes } => self.count_steps(*pod, bytes, answer),
+            Call::Commands(call) => self.count_commands(call, &said),
             _ => self.note(format!("{name} {verdict}")),
         }
         self.count_width(&call, &said);
@@ -109,6 +112,17 @@ impl Tally {
             Call::Recorder(call) => self.count_recorder(call, &said),
             Call::Force(call) => self.count_force(call, &said),
             _ => {}
+        }
+    }
+
+    /// The answers to a string of bytes, with the first byte of the report that each of them ends.
+    fn count_steps(&mut self, mut pod: Pod, bytes: &[u8], answer: &str) {
+        for (step, byte) in answer.split(" / ").zip(bytes) {
+            let first = if pod.held == 0 { *byte } else { pod.bytes[0] };
+            self.count_step(step);
+            self.note_when(first == 0xFC && step.ends_with("bad report"), "pod: a wrong digit of the time");
+            // A state that is refused stays, and is refused again.
+            let _ = pod.take(*byte);
         }
     }
 

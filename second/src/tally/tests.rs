@@ -43,7 +43,7 @@ fn any_line_with_any_answer_is_counted() {
             assert!(tally.report(Request::ALL).starts_with("1 calls"), "{line}, {answer}");
         }
     }
-    for step in ["0 0 0 0 0 0 0 relative", "0 0 0 0 0 0 0 self-test", "0 0 0 0 0 0 0 stick"] {
-        assert!(Tally::of("pod 0 0 0 0 0 0 0 1\n", &format!("{step}\n")).is_ok());
+    for step in ["0 0 0 0 0 0 0 0 relative", "0 0 0 0 0 0 0 0 self-test", "0 0 0 0 0 0 0 0 stick"] {
+        assert!(Tally::of("pod 0 0 0 0 0 0 0 0 1\n", &format!("{step}\n")).is_ok());
     }
 }

@@ -2,6 +2,7 @@
 //!
 //! `cargo test --test mistakes -- --nocapture` prints after how many calls each is noticed.
 
+mod commands;
 mod force;
 mod frames;
 mod gloves;
@@ -191,6 +192,11 @@ fn of_force_sticks() {
     all_are_noticed("force", On::All, force::all());
 }
 
+#[test]
+fn of_commands() {
+    all_are_noticed("commands", On::All, commands::all());
+}
+
 /// Without a mistake the ways to answer wrongly answer right; else what is noticed might be theirs.
 #[test]
 fn without_a_mistake_nothing_is_noticed() {
@@ -204,5 +210,6 @@ fn without_a_mistake_nothing_is_noticed() {
     ];
     right.extend(recorder::right());
     right.extend(force::right());
+    right.extend(commands::right());
     assert_eq!(noticed(&right, On::All, 4), vec![None; right.len()]);
 }

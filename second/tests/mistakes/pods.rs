@@ -51,8 +51,8 @@ fn first_bytes() -> Vec<Wrong> {
         first_is(0x81, Report::BadByte),
         first_is(0xF5, Report::BadByte),
         first_is(0xF6, Report::Up(0x76)),
-        first_is(0xFC, Report::More),
-        first("0xFC is 0xF8", |byte| if byte == 0xFC { 0xF8 } else { byte }),
+        first_is(0xFC, Report::BadByte),
+        first("0xFC is no report", |byte| if byte == 0xFC { 0 } else { byte }),
         first("0xFB is no report", |byte| if byte == 0xFB { 0 } else { byte }),
         first("0xF6 is 0xF7", |byte| if byte == 0xF6 { 0xF7 } else { byte }),
     ]
@@ -234,26 +234,32 @@ fn well_formed() -> Vec<Wrong> {
     vec![
         states("unused places are not judged", |pod| clear(pod, pod.held)),
         states("of the unused places the first alone is judged", |pod| clear(pod, pod.held.saturating_add(1))),
-        states("the last place is not judged", |pod| pod.bytes[4] = if pod.held < 5 { 0 } else { pod.bytes[4] }),
-        states("the places are not judged where none is held", |pod| clear(pod, if pod.held == 0 { 0 } else { 5 })),
+        states("the last place is not judged", |pod| pod.bytes[5] = if pod.held < 6 { 0 } else { pod.bytes[5] }),
+        states("the places are not judged where none is held", |pod| clear(pod, if pod.held == 0 { 0 } else { 6 })),
         states("a whole report of two may be held", |pod| {
             if pod.held == 2 && pod.bytes[0] >= 0xFE {
-                *pod = Pod { held: 1, bytes: [pod.bytes[0], 0, 0, 0, 0], ..*pod };
+                *pod = Pod { held: 1, bytes: [pod.bytes[0], 0, 0, 0, 0, 0], ..*pod };
             }
         }),
         states("a whole report of three may be held", |pod| {
             if pod.held == 3 && length(pod.bytes[0]) == 3 {
-                *pod = Pod { held: 2, bytes: [pod.bytes[0], pod.bytes[1], 0, 0, 0], ..*pod };
+                *pod = Pod { held: 2, bytes: [pod.bytes[0], pod.bytes[1], 0, 0, 0, 0], ..*pod };
             }
         }),
-        states("a whole report of six may be held", |pod| pod.held -= u64::from(pod.held == 6)),
+        states("a whole report of six may be held", |pod| {
+            if pod.held == 6 && pod.bytes[0] == 0xF7 {
+                pod.held = 5;
+                pod.bytes[5] = 0;
+            }
+        }),
+        states("a whole report of seven may be held", |pod| pod.held -= u64::from(pod.held == 7)),
         states("a key may be held", |pod| {
             if pod.held == 1 && (0x01..=0x75).contains(&pod.bytes[0]) {
                 *pod = pod.without_bytes();
             }
         }),
         states("a bad byte may be held", |pod| {
-            if pod.held == 1 && matches!(pod.bytes[0], 0 | 0x80 | 0xF6 | 0xFC) {
+            if pod.held == 1 && matches!(pod.bytes[0], 0 | 0x80 | 0xF6) {
                 *pod = pod.without_bytes();
             }
         }),
@@ -381,7 +387,7 @@ fn self_tests() -> Vec<Wrong> {
         }),
         pods("the self-test opens a longer report", |pod, byte| match pod.take(byte)? {
             Report::SelfTestPassed => {
-                *pod = Pod { held: 1, bytes: [byte, 0, 0, 0, 0], ..*pod };
+                *pod = Pod { held: 1, bytes: [byte, 0, 0, 0, 0, 0], ..*pod };
                 Ok(Report::More)
             }
             report => Ok(report),

@@ -6,7 +6,10 @@ use second::pod::{Pod, Report};
 use second::reader::{Ran, Reader};
 use second::recorder::BLOCK;
 use second::refusal::Refusal;
-use second::script::{marks, reader_numbers, Call, ForceCall, InWords, RecorderCall, PIECES_NUMBERS, WRITER_NUMBERS};
+use second::script::{
+    marks, reader_numbers, Call, CommandsCall, ForceCall, InWords, RecorderCall, PIECES_NUMBERS, POD_NUMBERS,
+    WRITER_NUMBERS,
+};
 use second::table::SlotNumber;
 use second::writer::Writer;
 
@@ -176,6 +179,7 @@ pub fn refusal(answer: &str, call: &Call) -> u8 {
         Call::Good { .. } => 2 * u8::from(first == "0"),
         Call::Ask { .. } | Call::PiecesAsk { .. } => 2 * u8::from(first == "refused"),
         Call::Start | Call::Pod { .. } => 2 * u8::from(answer.ends_with("refused 2")),
+        Call::Commands(CommandsCall::Read { .. }) => 11 * u8::from(answer.ends_with("refused 11")),
         _ => first.parse().expect("a verdict"),
     }
 }
@@ -186,6 +190,7 @@ fn verdict(answer: &str, call: &Call) -> (u8, Option<String>) {
         Call::Write { .. } => answer.split(' ').nth(WRITER_NUMBERS + 3).map(str::to_string),
         Call::Recorder(RecorderCall::Lay { .. }) => answer.split(' ').nth(3).map(str::to_string),
         Call::Force(ForceCall::Write { .. }) => answer.split(' ').nth(1).map(str::to_string),
+        Call::Commands(CommandsCall::Write { .. }) => answer.split(' ').nth(POD_NUMBERS + 1).map(str::to_string),
         _ => None,
     };
     (refusal(answer, call), need)
@@ -217,6 +222,10 @@ fn refused(call: &Call, number: u8) -> String {
             format!("{number} 0 {next} 0 :{}", bytes_text(&marks(*size)))
         }
         Call::Recorder(RecorderCall::Read { .. }) | Call::Force(ForceCall::Read { .. }) => number.to_string(),
+        Call::Commands(CommandsCall::Read { .. }) => format!("refused {number}"),
+        Call::Commands(CommandsCall::Write { pod, size, .. }) => {
+            format!("{number} {} 0 :{}", pod_text(pod), bytes_text(&marks(*size)))
+        }
         Call::Force(ForceCall::Write { size, .. }) => format!("{number} 0 :{}", bytes_text(&marks(*size))),
     }
 }

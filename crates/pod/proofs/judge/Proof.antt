@@ -3,8 +3,9 @@
 use mathlib.Core.Path.{_≡_, sym, ap, _∙_}
 use lib.ListN.{length}
 use borrow.Author.Needs.{needs}
-use Rattle.model.specs.Pod.{places}
-use Rattle.pod.specs.Seen.{heldReport}
+use Rattle.model.specs.Pod.{places, judgedTime}
+use Rattle.pod.specs.declared.Clock.{Clock}
+use Rattle.pod.specs.Seen.{clockSeen, heldReport}
 use Rattle.pod.proofs.Laws.{whole-absolute, whole-relative, whole-both, whole-stick}
 use Rattle.pod.proofs.judge.Statement.{statement}
 use Rattle.pod.proofs.judge.Tie as tie
@@ -51,6 +52,15 @@ relative-of-requires c κs = search needs
 enum-told-2 : tie.Need-enum-told-2
 enum-told-2 c = search needs
 
+clock-of-requires : tie.Need-clock-of-requires
+clock-of-requires c κs = search needs
+
+judge-time-requires : tie.Need-judge-time-requires
+judge-time-requires c κs = search needs
+
+enum-told-5 : tie.Need-enum-told-5
+enum-told-5 c = search needs
+
 array-read-judge-both : tie.Need-array-read-judge-both
 array-read-judge-both c = search needs
 
@@ -92,21 +102,26 @@ returns-4 c =
 
 returns-5 : tie.Need-returns-5
 returns-5 c =
-    let l = c .before .before .before .args .t2 in
-    let s : length l ≡ places = search needs in
-    rw (c .before .enum-told2 .given .1) (c .judge-both .ensures ∙ ap heldReport (sym (whole-both l (c .before .before .before .args .last) s)))
+    let made = ap (λ (x : Clock). heldReport (judgedTime (clockSeen x))) (c .before .clock-of .ensures) in
+    rw (c .before .before .enum-told2 .given .1) (c .judge-time .ensures ∙ made)
 
 returns-6 : tie.Need-returns-6
 returns-6 c =
+    let l = c .before .before .before .args .t2 in
+    let s : length l ≡ places = search needs in
+    rw (c .before .enum-told3 .given .1) (c .judge-both .ensures ∙ ap heldReport (sym (whole-both l (c .before .before .before .args .last) s)))
+
+returns-7 : tie.Need-returns-7
+returns-7 c =
     let l = c .before .before .before .before .args .t2 in
     let s : length l ≡ places = search needs in
     rw (c .before .before .kind4 .given .1) (c .judge-stick .ensures ∙ ap heldReport (sym (whole-stick l (c .before .before .before .before .args .last) s _)))
 
-returns-7 : tie.Need-returns-7
-returns-7 c = rw (c .enum-told3 .given .1)
-
 returns-8 : tie.Need-returns-8
 returns-8 c = rw (c .enum-told4 .given .1)
+
+returns-9 : tie.Need-returns-9
+returns-9 c = rw (c .enum-told5 .given .1)
 
 pub judge-spec : {M : Type 1} → statement M
 judge-spec =
@@ -126,12 +141,15 @@ judge-spec =
     array-read-relative-of
     relative-of-requires
     enum-told-2
+    clock-of-requires
+    judge-time-requires
+    enum-told-3
     array-read-judge-both
     judge-both-requires
     enum-known-kind-4
     judge-stick-requires
-    enum-told-3
     enum-told-4
+    enum-told-5
     returns
     returns-2
     returns-3
@@ -139,4 +157,5 @@ judge-spec =
     returns-5
     returns-6
     returns-7
-    returns-8)
+    returns-8
+    returns-9)

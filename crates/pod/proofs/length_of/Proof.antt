@@ -35,6 +35,9 @@ enum-told-7 c = search needs
 enum-told-8 : tie.Need-enum-told-8
 enum-told-8 c = search needs
 
+enum-told-9 : tie.Need-enum-told-9
+enum-told-9 c = search needs
+
 returns : tie.Need-returns
 returns c = by-kind (c .enum-told .given .1)
 
@@ -59,6 +62,9 @@ returns-7 c = by-kind (c .enum-told7 .given .1)
 returns-8 : tie.Need-returns-8
 returns-8 c = by-kind (c .enum-told8 .given .1)
 
+returns-9 : tie.Need-returns-9
+returns-9 c = by-kind (c .enum-told9 .given .1)
+
 pub length-of-spec : {M : Type 1} → statement M
 length-of-spec =
     tie.close
@@ -71,6 +77,7 @@ length-of-spec =
     enum-told-6
     enum-told-7
     enum-told-8
+    enum-told-9
     returns
     returns-2
     returns-3
@@ -78,4 +85,5 @@ length-of-spec =
     returns-5
     returns-6
     returns-7
-    returns-8)
+    returns-8
+    returns-9)

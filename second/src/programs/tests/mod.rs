@@ -1,5 +1,6 @@
 //! The programs held to docs/PROGRAMS.md: every word on both streams and the status, whole inputs and odd pieces, failed reads and writes.
 
+mod commands;
 mod force;
 mod recording;
 mod tables;
@@ -88,10 +89,13 @@ fn pod_lines() {
 
 #[test]
 fn lines_of_a_script() {
-    let script = b"# a name\n\npod 1 0 0 0 0 0 0 0\npod 0 0 0 0 0 0 0 254";
-    assert_eq!(said("drive", script, false), strings(Accepted, "1 0 0 0 0 0 0 bad byte\n0 1 254 0 0 0 0 more\n", ""));
+    let script = b"# a name\n\npod 1 0 0 0 0 0 0 0 0\npod 0 0 0 0 0 0 0 0 254";
+    assert_eq!(
+        said("drive", script, false),
+        strings(Accepted, "1 0 0 0 0 0 0 0 bad byte\n0 1 254 0 0 0 0 0 more\n", "")
+    );
     // The cut line is left unanswered, though it would be a call.
-    let answered = "1 0 0 0 0 0 0 bad byte\n".to_string();
+    let answered = "1 0 0 0 0 0 0 0 bad byte\n".to_string();
     assert_eq!(said("drive", script, true), (Failed, answered, format!("drive: {LOST}")));
     assert_eq!(said("drive", b"start\nstop\nstart\n", false).0, Refused);
     // A call that is refused is an answer.
@@ -105,7 +109,7 @@ fn long_lines_of_a_script() {
     for (lines, out) in [
         (
             vec![line(LONGEST_LINE), line(LONGEST_LINE + 1), line(300_000), line(5)],
-            "1 0 0 0 0 0 0\nbad line\nbad line\n1 0 0 0 0 0 0\n",
+            "1 0 0 0 0 0 0 0\nbad line\nbad line\n1 0 0 0 0 0 0 0\n",
         ),
         (vec![line(300_000), comment.clone(), line(LONGEST_LINE + 1)], "bad line\nbad line\n"),
         (vec![line(300_000), comment], "bad line\n"),
@@ -123,7 +127,7 @@ fn a_slow_input_is_answered_as_it_comes() {
         assert_eq!(*seen.0.borrow(), after);
     };
     talk("show_pod", &[(b"\x01\xF8", b""), (b"\0\0", b"down 1\n")], b"down 1\nrelative 0 0 0 0\n");
-    talk("drive", &[(b"start\nsta", b""), (b"rt\n", b"1 0 0 0 0 0 0\n")], b"1 0 0 0 0 0 0\n1 0 0 0 0 0 0\n");
+    talk("drive", &[(b"start\nsta", b""), (b"rt\n", b"1 0 0 0 0 0 0 0\n")], b"1 0 0 0 0 0 0 0\n1 0 0 0 0 0 0 0\n");
     let input = encoded("SETUP 1 9 9 9 9 9\nFRAME 1 0 0 1 0 0\nFRAME 0 0 0 0 0 0\n");
     let output = encoded("SETUP 1 9 9 9 9 9\nID 0\nPRESSURE 1\nREPORT\nID -1\nREPORT\n");
     talk(
@@ -144,6 +148,8 @@ fn a_failed_write_is_said_and_ends_the_program() {
         ("replay", encoded("SETUP 1 9 9 9 9 9\n")),
         ("show_force", [43, 2, 0, 41].repeat(8)),
         ("write_force", vec![0; 63]),
+        ("show_commands", vec![8; 20]),
+        ("write_commands", b"set clock 00 00 00 00 00 00\n".repeat(10)),
         ("drive", b"start\nstart\nstart\n".to_vec()),
     ] {
         for room in (0..60).chain([500, 536]) {
@@ -184,6 +190,8 @@ fn long_inputs_are_answered_as_in_one_piece() {
         ("write_frames", encoded(&("SETUP 5 9 9 9 9 9\n".to_string() + &frame.repeat(2_000)))),
         ("show_force", [43, 1, 8, 1, 0, 254, 255, 3, 164, 101, 249, 25, 43, 43, 1, 7].repeat(5_000)),
         ("write_force", [1, 2, 3, 4, 5, 6, 7, 8, 9].repeat(8_000)),
+        ("show_commands", [0x1B, 0x99, 1, 2, 3, 4, 0x5A, 8, 0x80, 1, 9, 1, 2, 3, 4].repeat(6_000)),
+        ("write_commands", b"reset\nabsolute 640 400\nbuttons 5\nno\n".repeat(3_000)),
         ("show_pod", [0xF7, 1, 2, 3, 4, 5, 0xFD, 0x80, 0, 0x11].repeat(20_000)),
         ("drive", b"crane_fresh 1 2 3 4\nfresh 1 2 3 4 5 6\nstart\nno\n".repeat(3_000)),
     ];
@@ -205,7 +213,7 @@ fn noise_is_answered_and_tries_every_word_of_the_page() {
             let whole = answers(program, &bytes, usize::MAX, false);
             assert!(answers(program, &bytes, 11, false) == whole, "{program} {index}");
             seen += &whole.2;
-            if !["write_frames", "record", "write_force"].contains(&program) {
+            if !["write_frames", "record", "write_force", "write_commands"].contains(&program) {
                 seen += &String::from_utf8(whole.1).unwrap();
             }
         }
@@ -242,6 +250,14 @@ fn noise_is_answered_and_tries_every_word_of_the_page() {
         "report 1 refused 4\n",
         " cut\n",
         "; the hat is ",
+        "reset\n",
+        "set clock ",
+        "lost\n",
+        "not for us\n",
+        "refused 11\n",
+        "line 1 refused 11\n",
+        "line 1 is not a command\n",
+        "time ",
         "more\n",
         "self-test passed\n",
         "up 112\n",

@@ -2,8 +2,8 @@
 use Prim.Native.Nat.{_≤_, _-_}
 use borrow.Author.Needs.{needs}
 use lib.ListN.{length}
-use Rattle.drive.proofs.cut.are_bytes.Statement.{statement}
-use Rattle.drive.proofs.cut.are_bytes.Tie as tie
+use Rattle.drive_lines.proofs.values.are_bytes.Statement.{statement}
+use Rattle.drive_lines.proofs.values.are_bytes.Tie as tie
 
 abbrev Inv-loop : tie.InvT-loop
 Inv-loop ns from i₀ i = i ≤ i
