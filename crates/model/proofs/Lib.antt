@@ -80,6 +80,28 @@
 --   CommandForms: a written command is read where it stands, and a list of them as the list.
 --   CommandOnes: what is read as a command is what is written for it; no byte form begins another; an answer by its number and values.
 --   CommandCalls: exact refusals of a write, the pod's state, and the buffer afterwards.
+-- Pointer emulation (K6)
+--   PointerSheet: what frames give and which are refused, computed; first of all here.
+--   Ranks: ranks by beginning are well formed after any frame.
+--   RanksOrder: they are in the order of beginning, by two slots.
+--   RanksKept: they stay where nothing begins or ends.
+--   RanksOldest: the contact that X and Y follow.
+--   RanksCode: how large ranks are, and what may stand for those that begin.
+--   RanksMarks: ranks by an array of flags, all gaps at once, and slot by slot.
+--   Emulated: a reader skips the emulated events, none comes alone, and they are on top of the contact events.
+--   EmulatedNumbers: one for each changed number of the display, at most four.
+--   EmulatedCounts: what a reader counts of them, following, lost, or in any mode.
+--   Display: a display that hears a frame's events shows the new numbers.
+--   Pointed: X and Y keep still or follow the oldest contact, in their ranges.
+--   Pointing: well-formed states with the option on and off, fresh and after a frame.
+--   PointerFrame: all this of a frame over any well-formed state, and the most events.
+--   PointerCalls: exact refusals, answers, well-formed states and limits of the calls.
+--   Off: with the option off every call answers what it answers without it.
+--   PointerCarried: records can carry the events.
+--   PointerBytes: demands 2 and 3 of the calls, in bytes.
+--   PointerShift: any list of calls, refused ones among them.
+--   PointerPlain: seen without the option, they are the calls of a shift without it.
+--   Births: the followed contact began in the earliest call.
 pub mod Bench
 pub mod AtReport
 pub mod Cranes
@@ -147,4 +169,25 @@ pub mod Blocks
 pub mod Recordings
 pub mod Tampered
 pub mod Laying
+pub mod PointerSheet
+pub mod Ranks
+pub mod RanksOrder
+pub mod RanksKept
+pub mod RanksOldest
+pub mod RanksCode
+pub mod RanksMarks
+pub mod Emulated
+pub mod EmulatedNumbers
+pub mod EmulatedCounts
+pub mod Display
+pub mod Pointed
+pub mod Pointing
+pub mod PointerFrame
+pub mod PointerCalls
+pub mod Off
+pub mod PointerCarried
+pub mod PointerBytes
+pub mod PointerShift
+pub mod PointerPlain
+pub mod Births
 pub mod Instances

@@ -25,4 +25,9 @@ pub mod ForceSheet
 pub mod CommandSheet
 pub mod Shift
 pub mod Narrow
+pub mod Ranks
+pub mod Pointer
+pub mod Pointing
+pub mod PointerSheet
+pub mod PointerShift
 pub mod Unique
