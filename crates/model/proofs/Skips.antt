@@ -69,6 +69,10 @@ numbered (f ∷ fs) c v =
     (λ e. by-cond (Numbered (fieldCodes (f ∷ fs)) c) (fits f v) (number 0 v) bad (λ _. rw (flip c (f .code) true e)) (λ _. rw (flip c (f .code) true e)))
     (λ e. numbered-later (f .code) (fieldCodes fs) c (numberAct fs c v) (flip c (f .code) false e) (numbered fs c v))
 
+-- SYN_MT_REPORT, as one code of type 0 by its value: with another definition the law below would fail for its shape alone.
+syn-2-told : synAct 2 ≡ skip ofCode 0 2
+syn-2-told = refl
+
 module _ (p : Panel) (e : Event) where
   abbrev codes : List ℕ
   codes = fieldCodes (p .fields)
