@@ -85,7 +85,7 @@ impl Bench {
                 let mut passes: Vec<_> = self.versions.iter().map(|v| (self.pass)(v, load, n)).collect();
                 let times = timed(&mut passes);
                 let (ours, others) = times.split_last().expect("a version");
-                print!("{load:8} {n:>3}");
+                print!("{load:13} {n:>3}");
                 for (version, theirs) in self.versions.iter().zip(others) {
                     let best = sorted(ours.clone())[0] / sorted(theirs.clone())[0];
                     let ratios = sorted(ours.iter().zip(theirs).map(|(a, b)| a / b).collect());

@@ -20,6 +20,7 @@ FNR == NR {
 
 !(($1, $2) in row) {
   row[$1, $2] = ++rows
+  if (length($1) > wide) wide = length($1)
   load[rows] = $1
   size[rows] = $2
 }
@@ -38,7 +39,7 @@ END {
 }
 
 function head(v) {
-  printf "%-8s %3s", "load", "n"
+  printf "%-*s %3s", wide, "load", "n"
   for (v = 1; v <= versions; v++) printf " %10s", version[v]
   for (v = 1; v < versions; v++) printf " %9s", "/" version[v]
   printf "  limit\n"
@@ -49,7 +50,7 @@ function ratio(r, name) {
 }
 
 function line(r, v) {
-  printf "%-8s %3d", load[r], size[r]
+  printf "%-*s %3d", wide, load[r], size[r]
   for (v = 1; v <= versions; v++) printf " %10.0f", count[r, version[v]]
   for (v = 1; v < versions; v++) printf " %9.2f", ratio(r, version[v])
   if ((load[r], size[r]) in most) printf "  %s", judged(r, most[load[r], size[r]])

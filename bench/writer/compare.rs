@@ -1,10 +1,10 @@
-//! Whether all versions of the writer answer the same: the state's 800 bytes, the verdict, every number of the answer and every byte of the buffer.
+//! Whether all versions of the writer answer the same: the state's 844 bytes, the verdict, every number of the answer and every byte of the buffer.
 
 use crate::calls::{agreed, Noise, Verdicts};
-use crate::loads::{frames, landing, setup, LOADS};
+use crate::loads::{frames, landing, parts, setup, LOADS};
 use crate::measure::SIZES;
 use crate::panel::{Setup, PER_SLOT, RECORDS};
-use crate::state::State;
+use crate::state::{Display, State};
 use crate::version::Answer;
 use crate::{BLANK, ROOM, UNTOLD, VERSIONS};
 
@@ -19,14 +19,14 @@ struct Call {
     at: usize,
 }
 
-fn fresh(given: [u32; 6], verdicts: &mut Verdicts) -> Result<State, String> {
+fn fresh(given: [u32; 6], pointer: bool, verdicts: &mut Verdicts) -> Result<State, String> {
     let [n, x, y, pressure, major, minor] = given;
     let answers = VERSIONS.each_ref().map(|version| {
         let mut state = State { current: 77, ..BLANK };
-        let verdict = version.fresh(&mut state, Setup { n, x, y, pressure, major, minor });
+        let verdict = version.fresh(&mut state, Setup { n, x, y, pressure, major, minor }, pointer);
         (version.name, (verdict, state))
     });
-    let (verdict, state) = agreed(&given, answers)?;
+    let (verdict, state) = agreed(&(given, pointer), answers)?;
     verdicts.note(verdict)?;
     Ok(state)
 }
@@ -50,7 +50,7 @@ fn write(call: &Call, verdicts: &mut Verdicts) -> Result<(u64, Call), String> {
 fn over_loads(verdicts: &mut Verdicts) -> Result<(), String> {
     for (n, load) in SIZES.iter().flat_map(|n| LOADS.map(|load| (*n, load))) {
         let Setup { x, y, pressure, major, minor, .. } = setup(n);
-        let state = fresh([n, x, y, pressure, major, minor], verdicts)?;
+        let state = fresh([n, x, y, pressure, major, minor], parts(load).1, verdicts)?;
         let mut call = Call { state, frame: landing(n), buf: vec![0xa5; ROOM + 40], at: 20 };
         for frame in frames(load, n).into_iter().chain([vec![]]) {
             let (verdict, out) = write(&call, verdicts)?;
@@ -117,23 +117,127 @@ const BROKEN: [(u64, fn(&mut Call)); 34] = [
     (5, |c| c.buf.truncate(c.at + 55)),
 ];
 
-fn over_refusals(verdicts: &mut Verdicts) -> Result<(), String> {
-    for given in BAD_SETUPS {
-        fresh(given, verdicts)?;
-    }
+/// What is done to a state of four slots in contact with K6's option off: all is refused by 2.
+const NOT_OFF: [fn(&mut State); 9] = [
+    |s| s.display.on = 1,
+    |s| s.display.on = 2,
+    |s| s.display.touch = 1,
+    |s| s.display.tool = 0x14f,
+    |s| s.display.x = 1,
+    |s| s.display.y = 1 << 31,
+    |s| s.ranks[0] = 1,
+    |s| s.ranks[3] = 255,
+    |s| s.ranks[RECORDS - 1] = 1,
+];
+
+/// The same with the option on: slot 0 leads, at 100 and 200, and all ranks are 0.
+const NOT_ON: [fn(&mut State); 21] = [
+    |s| s.display.on = 0,
+    |s| s.display.on = 3,
+    |s| s.display.touch = 0,
+    |s| s.display.touch = 2,
+    |s| s.display.tool = 0,
+    |s| s.display.tool = 0x14e,
+    |s| s.display.tool = 0x148,
+    |s| s.display.x = 101,
+    |s| s.display.y = 0,
+    |s| s.ranks[0] = 1,
+    |s| s.ranks[1] = 2,
+    |s| s.ranks[1] = RECORDS as u8,
+    |s| s.ranks[2] = 255,
+    |s| s.ranks[3] = RECORDS as u8 - 1,
+    |s| s.ranks[4] = 1,
+    |s| s.ranks[RECORDS - 1] = 1,
+    |s| s.ranks[..4].copy_from_slice(&[1, 2, 1, 2]),
+    |s| s.ranks[..4].copy_from_slice(&[0, 1, 3, 1]),
+    |s| s.table[0].x = 101,
+    |s| s.table[0].id = -1,
+    |s| s.table[3].id = -1,
+];
+
+/// The same, all good: later ranks, and other contacts that lead. With no contact the display keeps any place in range.
+const STILL_ON: [fn(&mut State); 6] = [
+    |s| s.ranks[1..4].copy_from_slice(&[1, 1, 0]),
+    |s| s.ranks[1..4].copy_from_slice(&[3, 2, 1]),
+    |s| lead(s, 3, [2, 1, 1, 0]),
+    |s| lead(s, 1, [1, 0, 1, 0]),
+    |s| leave(s, 4000, 0),
+    |s| leave(s, 7, 4000),
+];
+
+/// With no contact a place out of range, or a display that shows one.
+const NOT_LEFT: [fn(&mut State); 6] = [
+    |s| leave(s, 4001, 0),
+    |s| leave(s, 0, u32::MAX),
+    |s| s.table.iter_mut().for_each(|slot| slot.id = -1),
+    |s| {
+        leave(s, 1, 1);
+        s.display.touch = 1;
+    },
+    |s| {
+        leave(s, 1, 1);
+        s.display.tool = 0x145;
+    },
+    |s| {
+        leave(s, 1, 1);
+        s.ranks[2] = 1;
+    },
+];
+
+fn lead(state: &mut State, s: usize, ranks: [u8; 4]) {
+    state.ranks[..4].copy_from_slice(&ranks);
+    (state.display.x, state.display.y) = (state.table[s].x, state.table[s].y);
+}
+
+fn leave(state: &mut State, x: u32, y: u32) {
+    state.table.iter_mut().for_each(|slot| slot.id = -1);
+    state.display = Display { x, y, ..Display::fresh(true) };
+}
+
+/// Four slots in contact, and a frame that moves slot 0 and replaces slot 3.
+fn landed(pointer: bool, verdicts: &mut Verdicts) -> Result<Call, String> {
     let (frame, buf) = (landing(4), vec![0xa5; ROOM]);
-    let landed = write(&Call { state: State::fresh(setup(4)).1, frame, buf, at: 20 }, verdicts)?.1;
-    for (number, damage) in BROKEN {
-        let mut call = landed.clone();
-        call.frame[1..6].copy_from_slice(&[7, 7, 7, 7, 7]);
-        call.frame[18] = 2;
-        damage(&mut call);
-        let verdict = write(&call, verdicts)?.0;
-        if verdict != number {
-            return Err(format!("refused by {verdict} and not by {number}: {call:?}"));
+    let mut call = write(&Call { state: State::fresh(setup(4), pointer).1, frame, buf, at: 20 }, verdicts)?.1;
+    call.frame[1..6].copy_from_slice(&[7, 7, 7, 7, 7]);
+    call.frame[18] = 2;
+    Ok(call)
+}
+
+fn judged(call: &Call, number: u64, verdicts: &mut Verdicts) -> Result<(), String> {
+    let verdict = write(call, verdicts)?.0;
+    if verdict != number {
+        return Err(format!("refused by {verdict} and not by {number}: {call:?}"));
+    }
+    Ok(())
+}
+
+fn over_refusals(verdicts: &mut Verdicts) -> Result<(), String> {
+    for pointer in [false, true] {
+        for given in BAD_SETUPS {
+            fresh(given, pointer, verdicts)?;
+        }
+        for (number, damage) in BROKEN {
+            let mut call = landed(pointer, verdicts)?;
+            damage(&mut call);
+            judged(&call, number, verdicts)?;
         }
     }
     Ok(())
+}
+
+/// States with K6's numbers, good and not.
+fn over_pointing(verdicts: &mut Verdicts) -> Result<(), String> {
+    let changed = |pointer, number, changes: &[fn(&mut State)], verdicts: &mut Verdicts| {
+        changes.iter().try_for_each(|change| {
+            let mut call = landed(pointer, verdicts)?;
+            change(&mut call.state);
+            judged(&call, number, verdicts)
+        })
+    };
+    changed(false, 2, &NOT_OFF, verdicts)?;
+    changed(true, 2, &NOT_ON, verdicts)?;
+    changed(true, 2, &NOT_LEFT, verdicts)?;
+    changed(true, 0, &STILL_ON, verdicts)
 }
 
 /// A call with good numbers for the most part.
@@ -153,6 +257,13 @@ fn random_call(state: State, noise: &mut Noise) -> Call {
     if noise.one_in(16) {
         noise.pick(&BROKEN[..14]).1(&mut call);
     }
+    if noise.one_in(16) {
+        noise.pick(&NOT_ON[..16])(&mut call.state);
+    }
+    if noise.one_in(16) {
+        let s = noise.below(n) as usize;
+        call.state.ranks[s] = noise.below(4) as u8;
+    }
     call
 }
 
@@ -165,7 +276,7 @@ fn over_noise(verdicts: &mut Verdicts) -> Result<(), String> {
             let n = 1 + noise.below(RECORDS as u32);
             let given =
                 [n, 1 + noise.below(5), 1 + noise.below(5), 1 + noise.below(3), 1 + noise.below(3), 1 + noise.below(3)];
-            state = fresh(given, verdicts)?;
+            state = fresh(given, noise.one_in(2), verdicts)?;
             state.counter = noise.pick(&[0, 7, 65_500, 65_535]);
         }
         let (verdict, out) = write(&random_call(state, &mut noise), verdicts)?;
@@ -180,6 +291,7 @@ pub fn all() -> Result<String, String> {
     let mut verdicts = Verdicts::default();
     over_loads(&mut verdicts)?;
     over_refusals(&mut verdicts)?;
+    over_pointing(&mut verdicts)?;
     over_noise(&mut verdicts)?;
     verdicts.told(&[1, 2, 3, 4, 5])
 }

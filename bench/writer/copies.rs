@@ -1,7 +1,7 @@
 //! The writer in plain Rust that copies, in the steps of the proved one: a state comes in by value and goes out by value, and a whole new table is planned beside the old one.
 
 use crate::panel::{Setup, Slot, Table, PER_SLOT, RECORDS};
-use crate::state::State;
+use crate::state::{Display, Ranks, State};
 use crate::version::{Refused, Sent, Writer};
 
 struct Written {
@@ -63,6 +63,41 @@ fn numbers_changed(a: &Slot, b: &Slot) -> usize {
         + (a.minor != b.minor) as usize
 }
 
+fn goes_on(was: &Slot, is: &Slot) -> bool {
+    is.id != -1 && is.id == was.id
+}
+
+/// The ranks after a frame: contacts that go on close their gaps, and all that begin come after them.
+fn ranks_after(old: &Table, new: &Table, ranks: &Ranks) -> Ranks {
+    let mut held = [false; RECORDS];
+    for s in 0..RECORDS {
+        held[ranks[s] as usize] |= goes_on(&old[s], &new[s]);
+    }
+    // Below each old rank, how many go on; at the end, all of them.
+    let mut below = [0; RECORDS + 1];
+    for r in 0..RECORDS {
+        below[r + 1] = below[r] + held[r] as u8;
+    }
+    let mut after = [0; RECORDS];
+    for s in 0..RECORDS {
+        if goes_on(&old[s], &new[s]) {
+            after[s] = below[ranks[s] as usize];
+        } else if new[s].id != -1 {
+            after[s] = below[RECORDS];
+        }
+    }
+    after
+}
+
+/// Ranks and display after a frame; as they were with the option off.
+fn move_on(state: &State, new: &Table) -> (Ranks, Display) {
+    if state.display.on == 0 {
+        return (state.ranks, state.display);
+    }
+    let ranks = ranks_after(&state.table, new, &state.ranks);
+    (ranks, state.display.of(new, &ranks))
+}
+
 /// The changed slots, bit s for slot s, and how many numbers changed.
 fn tally(old: &Table, new: &Table) -> (u32, usize) {
     let mut changed = 0;
@@ -106,20 +141,41 @@ fn put_changes(buf: &mut [u8], at: &mut usize, old: &Slot, new: &Slot) {
     }
 }
 
-/// The events from `at` on; the last slot written.
-fn send(buf: &mut [u8], at: usize, old: &Table, new: &Table, current: usize, others: u32) -> usize {
+/// What the display is told before all contact events.
+fn put_touch(buf: &mut [u8], at: &mut usize, was: &Display, is: &Display) {
+    if was.touch != is.touch {
+        put(buf, at, 1, 0x14a, is.touch as i32);
+    }
+}
+
+/// What it is told behind them.
+fn put_display(buf: &mut [u8], at: &mut usize, was: &Display, is: &Display) {
+    if was.tool != is.tool && was.tool != 0 {
+        put(buf, at, 1, was.tool, 0);
+    }
+    if was.tool != is.tool && is.tool != 0 {
+        put(buf, at, 1, is.tool, 1);
+    }
+    if was.x != is.x {
+        put(buf, at, 3, 0, is.x as i32);
+    }
+    if was.y != is.y {
+        put(buf, at, 3, 1, is.y as i32);
+    }
+}
+
+/// The contact events; the last slot written.
+fn put_slots(buf: &mut [u8], at: &mut usize, old: &Table, new: &Table, current: usize, others: u32) -> usize {
     let mut last = current;
-    let mut to = at;
-    put_changes(buf, &mut to, &old[current], &new[current]);
+    put_changes(buf, at, &old[current], &new[current]);
     let mut left = others;
     while left != 0 {
         let s = left.trailing_zeros() as usize;
         left &= left - 1;
-        put(buf, &mut to, 3, 0x2f, s as i32);
-        put_changes(buf, &mut to, &old[s], &new[s]);
+        put(buf, at, 3, 0x2f, s as i32);
+        put_changes(buf, at, &old[s], &new[s]);
         last = s;
     }
-    put(buf, &mut to, 0, 0, 0);
     last
 }
 
@@ -143,13 +199,22 @@ fn write(state: State, frame: &[i32], buf: &mut [u8], at: usize) -> Written {
     let (changed, numbers) = tally(&old, &new);
     let current = state.current as usize;
     let others = changed & !(1 << current);
-    let count = if numbers == 0 { 0 } else { 1 + numbers + others.count_ones() as usize };
+    let (ranks, display) = move_on(&state, &new);
+    let told = state.display.events(&display);
+    let count = if numbers == 0 { 0 } else { 1 + numbers + others.count_ones() as usize + told };
     let need = 8 * count;
     if at > buf.len() || buf.len() - at < need {
         return refused(state, 5, need);
     }
-    let last = if count == 0 { current } else { send(buf, at, &old, &new, current, others) };
-    let state = State { setup: state.setup, table: new, current: last as u32, counter };
+    let mut last = current;
+    if count != 0 {
+        let mut to = at;
+        put_touch(buf, &mut to, &state.display, &display);
+        last = put_slots(buf, &mut to, &old, &new, current, others);
+        put_display(buf, &mut to, &state.display, &display);
+        put(buf, &mut to, 0, 0, 0);
+    }
+    let state = State { setup: state.setup, current: last as u32, counter, table: new, display, ranks };
     Written { state, outcome: Ok(Sent { count, changed }) }
 }
 

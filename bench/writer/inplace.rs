@@ -1,7 +1,7 @@
 //! The writer in plain Rust that changes its state in place: each row is looked at once, only changed numbers are stored, no table is copied. It judges what the proved one judges.
 
 use crate::panel::{Setup, Slot, PER_SLOT, RECORDS};
-use crate::state::State;
+use crate::state::{Display, Ranks, State};
 use crate::version::{Refused, Sent, Writer};
 use std::slice::ChunksExactMut;
 
@@ -20,6 +20,9 @@ const SEND_X: u32 = 0x35_0003;
 const SEND_Y: u32 = 0x36_0003;
 const SEND_ID: u32 = 0x39_0003;
 const SEND_PRESSURE: u32 = 0x3a_0003;
+const TELL_X: u32 = 0x00_0003;
+const TELL_Y: u32 = 0x01_0003;
+const TELL_TOUCH: u32 = 0x14a_0001;
 
 /// What a frame changes: which numbers of each slot, which slots and ids, a bit each, and how many numbers.
 struct Changes {
@@ -42,12 +45,16 @@ impl Changes {
         self.slots & !(1 << current)
     }
 
+    /// The contact events and the report, where a number changes.
     fn events(&self, current: usize) -> usize {
-        if self.numbers == 0 {
-            return 0;
-        }
         (1 + self.numbers + self.others(current).count_ones()) as usize
     }
+}
+
+/// What a frame makes of K6's ranks and display.
+struct Pointing {
+    ranks: Ranks,
+    display: Display,
 }
 
 /// The records of a frame, which have room.
@@ -111,8 +118,73 @@ impl State {
         ids
     }
 
+    /// The ranks after a frame that changes ids, and how many contacts are live then. Those that go on close their gaps, and all that begin come after them.
+    fn new_ranks(&self, frame: &[i32], changes: &Changes) -> (Ranks, usize) {
+        let goes_on = |s: usize| self.table[s].id != -1 && changes.ids >> s & 1 == 0;
+        let n = self.setup.n as usize;
+        let mut held = 0u32;
+        for s in 0..n {
+            held |= u32::from(goes_on(s)) << self.ranks[s];
+        }
+        let mut below = [0; RECORDS];
+        let mut all = 0;
+        for (r, below) in below[..n].iter_mut().enumerate() {
+            *below = all;
+            all += (held >> r & 1) as u8;
+        }
+        let mut ranks = [0; RECORDS];
+        let mut live = 0;
+        for s in 0..n {
+            if frame[PER_SLOT * s] != 0 {
+                ranks[s] = if goes_on(s) { below[self.ranks[s] as usize] } else { all };
+                live += 1;
+            }
+        }
+        (ranks, live)
+    }
+
+    /// Ranks and display after a frame that changes something. Where no id changes only X and Y can.
+    fn pointing(&self, frame: &[i32], changes: &Changes) -> Pointing {
+        let place = |ranks: &Ranks| {
+            let mut rows = frame.chunks_exact(PER_SLOT).zip(ranks);
+            rows.find(|(row, rank)| row[0] != 0 && **rank == 0).map(|(row, _)| (row[1] as u32, row[2] as u32))
+        };
+        if changes.ids == 0 {
+            let (x, y) = place(&self.ranks).unwrap_or((self.display.x, self.display.y));
+            return Pointing { ranks: self.ranks, display: Display { x, y, ..self.display } };
+        }
+        let (ranks, live) = self.new_ranks(frame, changes);
+        Pointing { ranks, display: self.display.told(live, place(&ranks)) }
+    }
+
+    /// Sends what the display is told behind the contact events, and stores what it is told.
+    fn send_display(&mut self, next: &Pointing, out: &mut Records) {
+        let (was, is) = (self.display, next.display);
+        if was.tool != is.tool {
+            if was.tool != 0 {
+                out.put((was.tool as u32) << 16 | 1, 0);
+            }
+            if is.tool != 0 {
+                out.put((is.tool as u32) << 16 | 1, 1);
+            }
+        }
+        if was.x != is.x {
+            out.put(TELL_X, is.x as i32);
+        }
+        if was.y != is.y {
+            out.put(TELL_Y, is.y as i32);
+        }
+        self.display = is;
+        self.ranks = next.ranks;
+    }
+
     /// Stores and sends what changes, the current slot first.
-    fn send(&mut self, frame: &[i32], changes: &Changes, out: &mut Records) {
+    fn send(&mut self, frame: &[i32], changes: &Changes, next: Option<Pointing>, out: &mut Records) {
+        if let Some(Pointing { display, .. }) = &next {
+            if display.touch != self.display.touch {
+                out.put(TELL_TOUCH, display.touch as i32);
+            }
+        }
         let ids = self.new_ids(frame, changes);
         let mut s = self.current as usize;
         let mut others = changes.others(s);
@@ -126,6 +198,9 @@ impl State {
             out.put(SEND_SLOT, s as i32);
         }
         self.current = s as u32;
+        if let Some(next) = &next {
+            self.send_display(next, out);
+        }
         out.put(REPORT, 0);
     }
 
@@ -168,14 +243,16 @@ impl State {
         let Some(changes) = self.changes(frame) else {
             return refused(4, 0);
         };
-        let count = changes.events(self.current as usize);
+        if changes.slots == 0 {
+            return if at > buf.len() { refused(5, 0) } else { Ok(Sent { count: 0, changed: 0 }) };
+        }
+        let next = (self.display.on != 0).then(|| self.pointing(frame, &changes));
+        let told = next.as_ref().map_or(0, |next| self.display.events(&next.display));
+        let count = changes.events(self.current as usize) + told;
         if at > buf.len() || buf.len() - at < 8 * count {
             return refused(5, 8 * count);
         }
-        if count == 0 {
-            return Ok(Sent { count, changed: 0 });
-        }
-        self.send(frame, &changes, &mut Records(buf[at..at + 8 * count].chunks_exact_mut(8)));
+        self.send(frame, &changes, next, &mut Records(buf[at..at + 8 * count].chunks_exact_mut(8)));
         Ok(Sent { count, changed: changes.slots })
     }
 }

@@ -2,8 +2,8 @@
 
 use crate::panel::{Setup, PER_SLOT};
 
-/// What changes: nothing; x of one slot, another one each time; every number but the id of every slot; every contact is another one; every finger lifts, and lands again.
-pub const LOADS: [&str; 5] = ["quiet", "one", "all", "replace", "lift"];
+/// What changes: nothing; x of one slot, another one each time; every number but the id of every slot; every contact is another one; every finger lifts, and lands again. The last ones are the same with K6's option on.
+pub const LOADS: [&str; 8] = ["quiet", "one", "all", "replace", "lift", "pointer_quiet", "pointer_one", "pointer_lift"];
 
 /// How many frames a load has: twice the most slots, so that each of them moves out and back.
 pub const FRAMES: i32 = 64;
@@ -17,13 +17,22 @@ pub fn landing(n: u32) -> Vec<i32> {
     (0..n as i32).flat_map(|s| [1, 100 + s, 200 + s, 30, 80, 40]).collect()
 }
 
-pub fn frames(load: &str, n: u32) -> Vec<Vec<i32>> {
-    (0..FRAMES).map(|k| (0..n as i32).flat_map(|s| row(load, n as i32, k, s)).collect()).collect()
+/// What a load changes, and whether K6's option is on.
+pub fn parts(load: &str) -> (&str, bool) {
+    match load.strip_prefix("pointer_") {
+        Some(change) => (change, true),
+        None => (load, false),
+    }
 }
 
-fn row(load: &str, n: i32, k: i32, s: i32) -> [i32; PER_SLOT] {
+pub fn frames(load: &str, n: u32) -> Vec<Vec<i32>> {
+    let (change, _) = parts(load);
+    (0..FRAMES).map(|k| (0..n as i32).flat_map(|s| row(change, n as i32, k, s)).collect()).collect()
+}
+
+fn row(change: &str, n: i32, k: i32, s: i32) -> [i32; PER_SLOT] {
     let odd = (k + 1) % 2;
-    match load {
+    match change {
         // Frame k moves slot k % n out or, the next time round, back; slots below it have moved already.
         "one" => [1, 100 + s + (k / n + (s <= k % n) as i32) % 2, 200 + s, 30, 80, 40],
         "all" => [1, 100 + s + odd, 200 + s + odd, 30 + odd, 80 + odd, 40 + odd],

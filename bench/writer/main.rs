@@ -14,12 +14,21 @@ mod state;
 mod version;
 
 use panel::{Setup, MOST_EVENTS, RECORDS, ZERO};
-use state::State;
+use state::{Display, State};
 use std::hint::black_box;
 use version::{in_rust, Answer, Version};
 
 extern "C" {
-    fn rattle_fresh(state: &mut State, n: u32, x: u32, y: u32, pressure: u32, major: u32, minor: u32) -> u64;
+    fn rattle_fresh(
+        state: &mut State,
+        n: u32,
+        x: u32,
+        y: u32,
+        pressure: u32,
+        major: u32,
+        minor: u32,
+        pointer: u32,
+    ) -> u64;
     fn rattle_write(
         state: &mut State,
         frame: *const i32,
@@ -31,11 +40,18 @@ extern "C" {
     ) -> u64;
 }
 
-pub const BLANK: State = State { setup: Setup::ZERO, current: 0, counter: 0, table: [ZERO; RECORDS] };
+pub const BLANK: State = State {
+    setup: Setup::ZERO,
+    current: 0,
+    counter: 0,
+    table: [ZERO; RECORDS],
+    display: Display::OFF,
+    ranks: [0; RECORDS],
+};
 /// What stands in the answer's place before a call, so that a number that is not told shows.
 pub const UNTOLD: Answer = Answer { count: 77, changed: 77, need: 77 };
-/// The most bytes that a frame can need.
-pub const ROOM: usize = 8 * MOST_EVENTS;
+/// The most bytes that a frame can need, with the four events that K6's display can be told.
+pub const ROOM: usize = 8 * (MOST_EVENTS + 4);
 
 static VERSIONS: [Version; 3] = [
     in_rust::<copies::Copies>("copies"),
@@ -49,7 +65,7 @@ fn pass(version: &str, load: &str, n: u32) -> Box<dyn FnMut()> {
     let frames = loads::frames(load, n);
     let mut held = measure::Held((BLANK, UNTOLD, [0; ROOM]));
     let (state, answer, buf) = &mut held.0;
-    version.fresh(state, loads::setup(n));
+    version.fresh(state, loads::setup(n), loads::parts(load).1);
     version.write(state, &loads::landing(n), buf, 0, answer);
     Box::new(move || {
         let (state, answer, buf) = &mut held.0;

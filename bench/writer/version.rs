@@ -16,15 +16,15 @@ pub struct Answer {
 /// Each call answers the verdict's number.
 pub struct Version {
     pub name: &'static str,
-    pub fresh: unsafe extern "C" fn(&mut State, u32, u32, u32, u32, u32, u32) -> u64,
+    pub fresh: unsafe extern "C" fn(&mut State, u32, u32, u32, u32, u32, u32, u32) -> u64,
     pub write: unsafe extern "C" fn(&mut State, *const i32, usize, *mut u8, usize, usize, &mut Answer) -> u64,
 }
 
 // SAFETY of both calls: the slices are whole, and no version reads or writes past them.
 impl Version {
-    pub fn fresh(&self, state: &mut State, setup: Setup) -> u64 {
+    pub fn fresh(&self, state: &mut State, setup: Setup, pointer: bool) -> u64 {
         let Setup { n, x, y, pressure, major, minor } = setup;
-        unsafe { (self.fresh)(state, n, x, y, pressure, major, minor) }
+        unsafe { (self.fresh)(state, n, x, y, pressure, major, minor, pointer as u32) }
     }
 
     pub fn write(&self, state: &mut State, frame: &[i32], buf: &mut [u8], at: usize, answer: &mut Answer) -> u64 {
@@ -53,8 +53,18 @@ pub const fn in_rust<W: Writer>(name: &'static str) -> Version {
     Version { name, fresh, write: write::<W> }
 }
 
-unsafe extern "C" fn fresh(state: &mut State, n: u32, x: u32, y: u32, pressure: u32, major: u32, minor: u32) -> u64 {
-    let (verdict, fresh) = State::fresh(Setup { n, x, y, pressure, major, minor });
+#[allow(clippy::too_many_arguments)]
+unsafe extern "C" fn fresh(
+    state: &mut State,
+    n: u32,
+    x: u32,
+    y: u32,
+    pressure: u32,
+    major: u32,
+    minor: u32,
+    pointer: u32,
+) -> u64 {
+    let (verdict, fresh) = State::fresh(Setup { n, x, y, pressure, major, minor }, pointer != 0);
     *state = fresh;
     verdict
 }

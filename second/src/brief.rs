@@ -1,12 +1,14 @@
-//! A shorter way to write a script's lines, for people: `[..]` is a table and `{..}` a record.
+//! A shorter way to write a script's lines, for people: `[..]` is a table, `<..>` what a writer holds for a display and `{..}` a record.
 //!
-//! `[0 100 200 30 9 7]` is a table whose first slots are given and whose others are unused, with four numbers a slot in a call of a crane's; `{X 300}` is the eight bytes of that event, `{X 300}*9` nine times them; `(1 100 200 30 9 7)*32` is these numbers 32 times.
+//! `[0 100 200 30 9 7]` is a table whose first slots are given and whose others are unused, with four numbers a slot in a call of a crane's; `<1 1 325 100 200 0>` is the option, the numbers told last and the first ranks, the others 0, so that `<>` is the option off; `{X 300}` is the eight bytes of that event, `{X 300}*9` nine times them; `(1 100 200 30 9 7)*32` is these numbers 32 times.
 
 use crate::events::{events, RECORD};
 use crate::reader::Reader;
 use crate::records;
 use crate::script::{head_numbers, layout_of, reader_numbers, table_numbers};
-use crate::script::{Call, Cut, RecorderCall, MOST_NUMBERS, PIECES_NUMBERS, WRITER_HEAD, WRITER_NUMBERS};
+use crate::script::{
+    Call, Cut, RecorderCall, BEFORE_POINTER, MOST_NUMBERS, PIECES_NUMBERS, POINTER_NUMBERS, WRITER_HEAD, WRITER_NUMBERS,
+};
 use crate::table::{Layout, Slot, Table};
 
 /// A whole brief script as a script for `drive`; an error names its line.
@@ -34,11 +36,16 @@ fn expand_line(line: &str) -> Result<String, String> {
     Ok(out.join(" "))
 }
 
-/// Writes out the table, the record or the word that `rest` begins with; what comes after it.
+/// Writes out the table, the pointer, the record or the word that `rest` begins with; what comes after it.
 fn expand_part<'a>(rest: &'a str, layout: Layout, out: &mut Vec<String>) -> Result<&'a str, String> {
     if let Some(inside) = rest.strip_prefix('[') {
         let (table, after) = inside.split_once(']').ok_or("a [ without its ]")?;
         expand_table(table, layout, out)?;
+        return Ok(after);
+    }
+    if let Some(inside) = rest.strip_prefix('<') {
+        let (pointer, after) = inside.split_once('>').ok_or("a < without its >")?;
+        expand_pointer(pointer, out)?;
         return Ok(after);
     }
     if let Some(inside) = rest.strip_prefix('{') {
@@ -96,6 +103,16 @@ fn expand_table(inside: &str, layout: Layout, out: &mut Vec<String>) -> Result<(
     Ok(())
 }
 
+fn expand_pointer(inside: &str, out: &mut Vec<String>) -> Result<(), String> {
+    let numbers: Vec<&str> = inside.split_whitespace().collect();
+    if numbers.len() > POINTER_NUMBERS {
+        return Err(format!("{} numbers for a display: at most {POINTER_NUMBERS}", numbers.len()));
+    }
+    out.extend(numbers.iter().map(|number| number.to_string()));
+    out.extend(vec!["0".to_string(); POINTER_NUMBERS - numbers.len()]);
+    Ok(())
+}
+
 /// A call as a brief line; [`expand`] gives its line back.
 pub fn shorten(call: &Call) -> String {
     let long = call.line();
@@ -121,7 +138,9 @@ pub fn shorten(call: &Call) -> String {
         }
         Call::Write { writer, .. } => {
             let head = words[..=WRITER_HEAD].join(" ");
-            join(format!("{head} {}", short_table(Layout::Panel, &writer.table)), &words[WRITER_NUMBERS + 1..])
+            let table = short_table(Layout::Panel, &writer.table);
+            let pointer = short_pointer(&words[BEFORE_POINTER + 1..=WRITER_NUMBERS]);
+            join(format!("{head} {table} {pointer}"), &words[WRITER_NUMBERS + 1..])
         }
         Call::Recorder(call) => {
             let mut line = words[..words.len() - call.bytes().len()].join(" ");
@@ -131,7 +150,7 @@ pub fn shorten(call: &Call) -> String {
             }
             line
         }
-        Call::Fresh(..) | Call::New(_) | Call::PiecesFresh(_) | Call::Start => long,
+        Call::Fresh(..) | Call::New { .. } | Call::PiecesFresh(_) | Call::Start => long,
         Call::Pod { .. } | Call::Force(_) | Call::Commands(_) => long,
     }
 }
@@ -176,6 +195,12 @@ fn short_table(layout: Layout, table: &Table) -> String {
     let used = table.iter().rposition(|slot| *slot != Slot::UNUSED).map_or(0, |last| last + 1);
     let slots: Vec<String> = table[..used].iter().map(|slot| short_slot(layout, slot)).collect();
     format!("[{}]", slots.join("  "))
+}
+
+/// Without the zeros at its end.
+fn short_pointer(words: &[&str]) -> String {
+    let used = words.iter().rposition(|word| *word != "0").map_or(0, |last| last + 1);
+    format!("<{}>", words[..used].join(" "))
 }
 
 fn short_slot(layout: Layout, slot: &Slot) -> String {
@@ -224,6 +249,11 @@ mod tests {
             ("run [1 2 3 4]", "line 1: a table of 4 numbers: 6 a slot"),
             ("crane_run [1 2 3 4 5 6]", "line 1: a table of 6 numbers: 4 a slot"),
             ("run [1", "line 1: a [ "),
+            ("write <1", "line 1: a < "),
+            (
+                "write <0 0 0 0 0 0 0 0 0 0 0 0 0 0 0 0 0 0 0 0 0 0 0 0 0 0 0 0 0 0 0 0 0 0 0 0 0 0>",
+                "line 1: 38 numbers",
+            ),
             ("run {X", "line 1: a { "),
             ("write (1 2", "line 1: a ( "),
             ("write (1 2)*99999", "line 1: 99999 rows, where at most 6001 are of use"),
@@ -236,6 +266,7 @@ mod tests {
             assert!(expand(text).unwrap_err().starts_with(error), "{text}");
         }
         assert!(expand("run {X 1}*1501").is_ok());
+        assert_eq!(expand("write <1 1 325>7\n").unwrap(), format!("write 1 1 325{} 7\n", " 0".repeat(34)));
         assert_eq!(expand("write (1 2 )*3 (4) ()*9 5\n").unwrap(), "write 1 2 1 2 1 2 4 5\n");
     }
 }

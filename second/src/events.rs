@@ -4,6 +4,8 @@ use crate::table::{Layout, MAJOR, MINOR, NUMBERS, PRESSURE, X, Y};
 
 /// The type of the two SYN events.
 pub const EV_SYN: u16 = 0;
+/// The type of the buttons that an old display is told of. No reader here knows it.
+pub const EV_KEY: u16 = 1;
 /// The type of the ABS_MT events.
 pub const EV_ABS: u16 = 3;
 
@@ -22,6 +24,18 @@ pub const ABS_MT_POSITION_Y: u16 = 0x36;
 pub const ABS_MT_PRESSURE: u16 = 0x3a;
 pub const ABS_MT_TOUCH_MAJOR: u16 = 0x30;
 pub const ABS_MT_TOUCH_MINOR: u16 = 0x31;
+
+/// 1 while any contact is live.
+pub const BTN_TOUCH: u16 = 0x14a;
+/// 1 while one contact is live, and so on to five or more.
+pub const BTN_TOOL_FINGER: u16 = 0x145;
+pub const BTN_TOOL_DOUBLETAP: u16 = 0x14d;
+pub const BTN_TOOL_TRIPLETAP: u16 = 0x14e;
+pub const BTN_TOOL_QUADTAP: u16 = 0x14f;
+pub const BTN_TOOL_QUINTTAP: u16 = 0x148;
+/// Where the display's one pointer is.
+pub const ABS_X: u16 = 0;
+pub const ABS_Y: u16 = 1;
 
 /// The codes of a slot's numbers, in their order.
 pub const CODES: [u16; NUMBERS] =
@@ -81,6 +95,11 @@ impl Event {
     /// An event of the type EV_ABS.
     pub fn abs(code: u16, value: i32) -> Event {
         Event { kind: EV_ABS, code, value }
+    }
+
+    /// A button that goes down or up.
+    pub fn key(code: u16, is_down: bool) -> Event {
+        Event { kind: EV_KEY, code, value: is_down.into() }
     }
 
     /// The event that a record is.

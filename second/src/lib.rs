@@ -1,6 +1,6 @@
 //! Panel and pod events, written from documents 01 and 02 alone: what the proved library is compared with.
 //!
-//! The rules: [`refusal`], [`table`], [`events`], [`reader`], [`pieces`], [`writer`], [`pod`], [`recorder`], [`force`], [`commands`].
+//! The rules: [`refusal`], [`table`], [`events`], [`reader`], [`pieces`], [`writer`], [`pointer`], [`pod`], [`recorder`], [`force`], [`commands`].
 //! The programs: [`streams`], [`programs`]. The comparison: [`script`], [`maker`], [`random`], [`noise`], [`smaller`], [`tally`], [`requests`].
 //! For people: texts in [`records`] and [`brief`], a class's [`shift`].
 
@@ -12,6 +12,7 @@ pub mod maker;
 pub mod noise;
 pub mod pieces;
 pub mod pod;
+pub mod pointer;
 pub mod programs;
 pub mod random;
 pub mod reader;

@@ -33,7 +33,8 @@ second noises PROGRAM SEED FIRST COUNT FOLDER
                                        COUNT of them from FIRST on, with what the program answers, as files
 second programs FOLDER                 the programs that have a folder there and a twin here, in one line
 second PROGRAM < BYTES                 show_table, crane_table, write_frames, show_pod, record, replay, show_force, write_force, show_commands, write_commands or drive:
-                                       the program of that name";
+                                       the program of that name
+second write_frames --pointer < BYTES  the same with pointer emulation; as PROGRAM above it is one word, 'write_frames --pointer'";
 
 const CASES: &str = include_str!("../cases.txt");
 
@@ -43,6 +44,7 @@ fn cases_of(request: Request) -> &'static str {
         Request::Recorder => include_str!("../cases_recorder.txt"),
         Request::Force => include_str!("../cases_force.txt"),
         Request::Commands => include_str!("../cases_commands.txt"),
+        Request::Pointer => include_str!("../cases_pointer.txt"),
     }
 }
 
@@ -71,15 +73,18 @@ fn main() -> ExitCode {
     let texts: Vec<Cow<str>> = arguments.iter().map(|argument| argument.to_string_lossy()).collect();
     let words: Vec<&str> = texts.iter().map(|text| &**text).collect();
     let status = match words[..] {
+        ["write_frames", "--pointer"] => run(&[programs::WITH_POINTER]).unwrap_or_else(status_of),
+        ["write_frames", "--pointer", ..] => too_many("write_frames", &arguments[2]),
         [program, _, ..] if programs::NAMES.contains(&program) => too_many(program, &arguments[1]),
         _ => run(&words).unwrap_or_else(status_of),
     };
     ExitCode::from(status.number())
 }
 
-/// A program reads nothing but its standard input.
+/// A program reads nothing but its standard input, and one of them takes a word, once.
 fn too_many(program: &str, argument: &OsString) -> Status {
-    let before = format!("{program}: no argument is taken, and '");
+    let taken = if program == "write_frames" { " but --pointer" } else { "" };
+    let before = format!("{program}: no argument{taken} is taken, and '");
     let after = format!("' is one; a file is given as {program} < FILE\n");
     say(&[before.as_bytes(), argument.as_bytes(), after.as_bytes()].concat());
     Status::Failed
@@ -109,7 +114,7 @@ fn run(words: &[&str]) -> Result<Status, Failure> {
         ["records", "encode"] => filter(records::encode),
         ["records", "decode"] => filter(|input, out, err| records::decode(input, out, err, false)),
         ["records", "decode", "frames"] => filter(|input, out, err| records::decode(input, out, err, true)),
-        [program] if programs::NAMES.contains(program) => {
+        [program] if programs::NAMES.contains(program) || *program == programs::WITH_POINTER => {
             filter(|input, out, err| programs::run(program, input, out, err).unwrap_or(Status::Failed))
         }
         _ => {

@@ -6,7 +6,7 @@ use crate::events::Event;
 use crate::force::{LEN, OP, START};
 use crate::maker::Maker;
 use crate::pod::Pod;
-use crate::programs::{show_commands, write_frames, HEADER};
+use crate::programs::{show_commands, write_frames, HEADER, WITH_POINTER};
 use crate::reader::Reader;
 use crate::recorder::{block, BLOCK};
 use crate::table::{Layout, Setup, LIMITS, NUMBERS, SLOTS};
@@ -33,7 +33,7 @@ pub fn noise(program: &str, seed: u64, index: u64) -> Option<Vec<u8>> {
         "show_commands" => commands(&mut maker, shape, length),
         "write_commands" => command_lines(&mut maker, shape, length),
         "drive" => script(&mut maker, shape, length),
-        "show_table" | "crane_table" | "write_frames" | "record" | "replay" if shape == 0 => {
+        "show_table" | "crane_table" | "write_frames" | WITH_POINTER | "record" | "replay" if shape == 0 => {
             odd_setup(&mut maker, layout, turn)
         }
         "show_table" | "crane_table" | "record" => {
@@ -43,9 +43,9 @@ pub fn noise(program: &str, seed: u64, index: u64) -> Option<Vec<u8>> {
                 _ => records(maker, layout, setup, length, shape == 3),
             })
         }
-        "write_frames" => after_setup(&mut maker, layout, length, |maker, setup| match shape {
+        "write_frames" | WITH_POINTER => after_setup(&mut maker, layout, length, |maker, setup| match shape {
             1 => plain(maker, length),
-            _ => frames(maker, setup, length),
+            _ => frames(maker, setup, length, program == WITH_POINTER),
         }),
         "replay" => after_setup(&mut maker, layout, length, |maker, setup| match shape {
             1 => plain(maker, length),
@@ -164,12 +164,15 @@ fn time(maker: &mut Maker) -> Vec<u8> {
     [seconds.to_le_bytes(), microseconds.to_le_bytes()].concat()
 }
 
-/// Frames that are mostly good, at least so many bytes.
-fn frames(maker: &mut Maker, setup: Setup, length: usize) -> Vec<u8> {
-    let mut writer = Writer::fresh(setup).expect("a good setup");
+/// Frames that are mostly good, at least so many bytes; half of those for a `pointer` move what it follows.
+fn frames(maker: &mut Maker, setup: Setup, length: usize, pointer: bool) -> Vec<u8> {
+    let mut writer = Writer::fresh(setup, pointer).expect("a good setup");
     let mut bytes = Vec::new();
     while bytes.len() < length {
-        let mut frame = maker.frame(&writer);
+        let mut frame = match pointer && maker.random.once_in(2) {
+            true => maker.pointer_frame(&writer),
+            false => maker.frame(&writer),
+        };
         if maker.random.once_in(8) {
             let i = maker.random.below(frame.len() as u64) as usize;
             frame[i] = maker.random.word() as i32;
@@ -187,8 +190,9 @@ fn frames(maker: &mut Maker, setup: Setup, length: usize) -> Vec<u8> {
 /// What a writer sends of such frames, at least so many bytes where the frames change enough.
 fn sent(maker: &mut Maker, setup: Setup, length: usize) -> Vec<u8> {
     let mut bytes = Vec::new();
-    let frames = [header(&setup), frames(maker, setup, length)].concat();
-    write_frames(&frames[..], &mut bytes, io::sink());
+    let pointer = maker.random.once_in(4);
+    let frames = [header(&setup), frames(maker, setup, length, pointer)].concat();
+    write_frames(&frames[..], &mut bytes, io::sink(), pointer);
     bytes.split_off(HEADER)
 }
 
@@ -341,7 +345,7 @@ mod tests {
 
     #[test]
     fn lengths_and_names() {
-        for program in NAMES {
+        for program in NAMES.into_iter().chain([WITH_POINTER]) {
             let lengths: Vec<u64> =
                 (0..8 * EACH_LENGTH).map(|index| noise(program, 5, index).unwrap().len() as u64).collect();
             for length in 0..EACH_LENGTH {
@@ -373,7 +377,7 @@ mod tests {
         let mut reader = Reader::fresh(Layout::Crane, setup.known_to(Layout::Crane)).unwrap();
         let ran = reader.run(&sent(&mut maker, setup, 5_000)).unwrap();
         assert!(ran.shown > 5 && ran.unknown_code > 5, "{ran:?}");
-        assert_eq!((ran.unknown_type, ran.bad, ran.ignored), (0, 0, 0));
+        assert_eq!((ran.bad, ran.ignored), (0, 0));
     }
 
     #[test]

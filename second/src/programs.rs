@@ -27,7 +27,7 @@ pub const HEADER: usize = (1 + NUMBERS) * NUMBER;
 /// The bytes that a frame has for each slot.
 pub const ROW: usize = SLOT_NUMBERS * NUMBER;
 
-/// The names that [`run`] takes.
+/// The names that [`run`] takes, besides [`WITH_POINTER`].
 pub const NAMES: [&str; 11] = [
     "show_table",
     "crane_table",
@@ -42,6 +42,9 @@ pub const NAMES: [&str; 11] = [
     "drive",
 ];
 
+/// The one program that takes an argument, with it: K6's option is on.
+pub const WITH_POINTER: &str = "write_frames --pointer";
+
 /// What a setup's largest values are called, in their order.
 const LARGEST: [&str; NUMBERS] =
     ["the largest x", "the largest y", "the largest pressure", "the largest major", "the largest minor"];
@@ -51,7 +54,8 @@ pub fn run(name: &str, input: impl Read, out: impl Write, err: impl Write) -> Op
     Some(match name {
         "show_table" => show_table(input, out, err),
         "crane_table" => crane_table(input, out, err),
-        "write_frames" => write_frames(input, out, err),
+        "write_frames" => write_frames(input, out, err, false),
+        WITH_POINTER => write_frames(input, out, err, true),
         "show_pod" => show_pod(input, out, err),
         "record" => record(input, out, err),
         "replay" => replay(input, out, err),
@@ -256,10 +260,10 @@ fn print_table(reader: &Reader, out: &mut impl Write) -> io::Result<()> {
     Ok(())
 }
 
-/// The setup and every record that the frames of the input are sent as.
-pub fn write_frames(input: impl Read, out: impl Write, err: impl Write) -> Status {
+/// The setup and every record that the frames of the input are sent as, with pointer emulation or without.
+pub fn write_frames(input: impl Read, out: impl Write, err: impl Write, pointer: bool) -> Status {
     let mut streams = Streams::new("write_frames", input, out, err);
-    let done = send_frames(&mut streams);
+    let done = send_frames(&mut streams, pointer);
     streams.end(done)
 }
 
@@ -279,11 +283,11 @@ fn passed_setup<R: Read, W: Write, E: Write>(streams: &mut Streams<R, W, E>) -> 
     Ok(Some(setup))
 }
 
-fn send_frames<R: Read, W: Write, E: Write>(streams: &mut Streams<R, W, E>) -> io::Result<()> {
+fn send_frames<R: Read, W: Write, E: Write>(streams: &mut Streams<R, W, E>, pointer: bool) -> io::Result<()> {
     let Some(setup) = passed_setup(streams)? else {
         return Ok(());
     };
-    let mut writer = Writer::fresh(setup).expect("a setup without a wrong number is good");
+    let mut writer = Writer::fresh(setup, pointer).expect("a setup without a wrong number is good");
     let size = ROW * setup.slots as usize;
     let mut k = 1u64;
     let ended = streams.units(size, |frames, out, words| -> io::Result<()> {

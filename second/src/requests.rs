@@ -9,11 +9,13 @@ pub enum Request {
     Force,
     /// K13, commands to the pod. The pod's own calls know the time of day whether this is turned on or not.
     Commands,
+    /// K6, pointer emulation. Every line of a writer has its numbers, and where this is turned off the option is off in all of them.
+    Pointer,
 }
 
 impl Request {
     /// Each of them, for tests.
-    pub const ALL: &'static [Request] = &[Request::Recorder, Request::Force, Request::Commands];
+    pub const ALL: &'static [Request] = &[Request::Recorder, Request::Force, Request::Commands, Request::Pointer];
 
     /// Those that `second script`, its tally and the noise for `drive` know. A request is turned on by its name here, and `tools/corpus` then makes the corpus anew.
     pub const MADE: &'static [Request] = Request::ALL;

@@ -107,7 +107,7 @@ pub fn frames(count: u64, seed: u64, out: &mut impl Write) -> io::Result<()> {
 /// What a panel sends of these frames, as `record` and `show_table` read it, with a loss: SYN_DROPPED stands for the first frame from `lost` on (from 1) in which a hand lifts. The place of that frame; `None` where there is none.
 pub fn records(count: u64, seed: u64, lost: u64, out: &mut impl Write) -> io::Result<Option<u64>> {
     let mut shift = Shift::new(seed);
-    let mut writer = Writer::fresh(SETUP).expect("a good setup");
+    let mut writer = Writer::fresh(SETUP, false).expect("a good setup");
     let mut found = None;
     out.write_all(&header())?;
     for place in 1..=count {

@@ -2,11 +2,14 @@
 
 use crate::events::{events, Event, ABS_MT_SLOT, EV_ABS, RECORD};
 use crate::force::Force;
+use crate::maker::need_of;
+use crate::maker::pointer::mended;
 use crate::pieces::PieceReader;
 use crate::pod::Pod;
+use crate::pointer::{Pointer, Told};
 use crate::reader::{Mode, Reader};
 use crate::recorder::{put_check, BLOCK};
-use crate::script::{Call, CommandsCall, Cut, ForceCall, RecorderCall};
+use crate::script::{Call, CommandsCall, Cut, ForceCall, RecorderCall, LARGEST_BUFFER};
 use crate::table::{Setup, Slot, SlotNumber, Table, SLOTS, SLOT_NUMBERS};
 use crate::writer::Writer;
 
@@ -37,7 +40,7 @@ fn verdict_of(call: &Call) -> Option<String> {
     }
 }
 
-/// Fewer numbers first, then more of them plain, then fewer slots, then fewer digits. Every candidate taken makes it smaller, so shrinking ends.
+/// Fewer numbers first, a record's room in a buffer as one of them, then more of them plain, then fewer slots, then fewer bytes and digits. Every candidate taken makes it smaller, so shrinking ends.
 fn weight_of(call: &Call) -> (usize, usize, u64, usize) {
     let line = call.line();
     let words = || line.split(' ').skip(1);
@@ -51,12 +54,15 @@ fn weight_of(call: &Call) -> (usize, usize, u64, usize) {
             (0, reader.map_or(0, |reader| reader.setup.slots))
         }
     };
-    (words().count() + size, words().filter(|word| !matches!(*word, "0" | "-1")).count(), slots, line.len())
+    let plain = words().filter(|word| matches!(*word, "0" | "-1")).count();
+    let count = words().count();
+    (count + size.div_ceil(RECORD), count - plain, slots, size + line.len())
 }
 
 fn candidates(call: &Call, give: &mut dyn FnMut(Call)) {
     match call {
-        Call::Fresh(..) | Call::New(_) | Call::PiecesFresh(_) | Call::Start => {}
+        Call::New { setup, pointer: true } => give(Call::New { setup: *setup, pointer: false }),
+        Call::Fresh(..) | Call::New { .. } | Call::PiecesFresh(_) | Call::Start => {}
         Call::PiecesTake { pieces, cut } => smaller_cuts(pieces, cut, give),
         Call::PiecesLoad { pieces, current, image } => smaller_left_over(pieces, &mut |pieces| {
             give(Call::PiecesLoad { pieces, current: *current, image: image.clone() });
@@ -308,13 +314,30 @@ fn smaller_writers(call: &Call, give: &mut dyn FnMut(Call)) {
     let Call::Write { writer, position, size, frame } = call else {
         return;
     };
+    let need = need_of(writer, frame);
     let mut with = |writer: Writer, frame: Vec<i32>| {
-        give(Call::Write { writer, position: *position, size: *size, frame });
+        let mut with_pointer = |pointer: Pointer| {
+            let (writer, frame) = (Writer { pointer, ..writer.clone() }, frame.clone());
+            // Fewer contacts may need more: two more tool events, where five contacts become four.
+            let size = match (need, need_of(&writer, &frame)) {
+                (Some(old), Some(new)) => (*size + new).saturating_sub(old).min(LARGEST_BUFFER),
+                _ => *size,
+            };
+            give(Call::Write { writer, position: *position, size, frame });
+        };
+        // A broken state is to stay so, and a good one whose contacts are others now has other numbers for the display.
+        with_pointer(writer.pointer);
+        let pointer = mended(&writer.pointer, &writer.setup, &writer.table);
+        if pointer != writer.pointer {
+            with_pointer(pointer);
+        }
     };
     smaller_numbers(frame, SLOT_NUMBERS, 0, &mut |frame| with(writer.clone(), frame));
     for s in slots_of(&writer.setup) {
         let mut writer = writer.clone();
         take_slot(&mut writer.table, s);
+        writer.pointer.ranks.copy_within(s + 1.., s);
+        writer.pointer.ranks[SLOTS - 1] = 0;
         writer.setup.slots -= 1;
         writer.current = number_without(writer.current, s);
         with(writer, numbers_without(frame, SLOT_NUMBERS, s));
@@ -329,6 +352,28 @@ fn smaller_writers(call: &Call, give: &mut dyn FnMut(Call)) {
     smaller_tables(&writer.table, &mut |table| with(Writer { table, ..writer.clone() }, frame.clone()));
     for (current, counter) in [(SlotNumber(0), writer.counter), (writer.current, 0)] {
         with(Writer { current, counter, ..writer.clone() }, frame.clone());
+    }
+    smaller_pointers(&writer.pointer, &mut |pointer| with(Writer { pointer, ..writer.clone() }, frame.clone()));
+}
+
+/// The option off, or one number for the display 0.
+fn smaller_pointers(pointer: &Pointer, give: &mut dyn FnMut(Pointer)) {
+    let told = pointer.told;
+    give(Pointer::OFF);
+    give(Pointer { on: false, ..*pointer });
+    for told in [
+        Told { touch: 0, ..told },
+        Told { tool: 0, ..told },
+        Told { x: 0, ..told },
+        Told { y: 0, ..told },
+        Told::NOTHING,
+    ] {
+        give(Pointer { told, ..*pointer });
+    }
+    for s in 0..SLOTS {
+        let mut fewer = *pointer;
+        fewer.ranks[s] = 0;
+        give(fewer);
     }
 }
 
@@ -519,6 +564,36 @@ mod tests {
         }
         let short = shorten(&call);
         assert!(short.len() < 130, "{short}");
+    }
+
+    /// A writer whose display follows the lowest slot: shrunk, two contacts are left, or a third that the frame changes.
+    #[test]
+    fn contacts_that_a_display_needs_are_left() {
+        (11..15).for_each(shrink_display);
+    }
+
+    fn shrink_display(seed: u64) {
+        let live = |writer: &Writer| (0..SLOTS).filter(|s| writer.table[*s].id.is_live()).collect::<Vec<_>>();
+        let differs = |call: &Call| match call {
+            Call::Write { writer, position, size, frame } if writer.pointer.on => {
+                let mut after = writer.clone();
+                after.write(frame, &mut vec![0; *size], *position).is_ok_and(|written| written.changed != 0)
+                    && live(&after).first().is_some_and(|s| after.pointer.ranks[*s] != 0)
+            }
+            _ => false,
+        };
+        let mut maker = Maker::new(seed);
+        let mut call = loop {
+            match Call::parse(maker.next_line().as_bytes()) {
+                Some(call @ Call::Write { .. }) if differs(&call) && shorten(&call).len() > 300 => break call,
+                _ => {}
+            }
+        };
+        while let Some(next) = smaller(&call).into_iter().find(|call| differs(call)) {
+            call = next;
+        }
+        let Call::Write { writer, .. } = &call else { unreachable!("it is a frame") };
+        assert!(live(writer).len() <= 3 && writer.setup.slots <= 3, "{}", shorten(&call));
     }
 
     #[test]

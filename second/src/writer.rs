@@ -1,11 +1,14 @@
 //! The type B writer: a frame judged, planned and sent as records into the caller's buffer.
 
 use crate::events::*;
+use crate::pointer::{Pointer, MOST_EMULATED};
 use crate::refusal::Refusal;
 use crate::table::*;
 
-/// The most events of a frame: every number of every slot, a SLOT for each but the current one, and the report.
-pub const MOST_EVENTS: usize = SLOTS * SLOT_NUMBERS + (SLOTS - 1) + 1;
+/// The most events of a frame with the option off: every number of every slot, a SLOT for each but the current one, and the report.
+pub const MOST_CONTACT_EVENTS: usize = SLOTS * SLOT_NUMBERS + (SLOTS - 1) + 1;
+/// The most events of any frame.
+pub const MOST_EVENTS: usize = MOST_CONTACT_EVENTS + MOST_EMULATED;
 /// The most bytes that a frame needs.
 pub const LARGEST_FRAME: usize = MOST_EVENTS * RECORD;
 
@@ -16,6 +19,7 @@ pub struct Writer {
     pub current: SlotNumber,
     pub counter: u32,
     pub table: Table,
+    pub pointer: Pointer,
 }
 
 /// What was sent of a frame.
@@ -35,19 +39,21 @@ impl Written {
 struct Plan {
     table: Table,
     counter: u32,
+    pointer: Pointer,
     written: Written,
 }
 
 impl Writer {
     /// The state's place in an answer with refusal 1; it is not well formed.
-    pub const ZEROS: Writer = Writer { setup: Setup::ZEROS, current: SlotNumber(0), counter: 0, table: ZERO_TABLE };
+    pub const ZEROS: Writer =
+        Writer { setup: Setup::ZEROS, current: SlotNumber(0), counter: 0, table: ZERO_TABLE, pointer: Pointer::OFF };
 
-    /// The state at the start; refusal 1.
-    pub fn fresh(setup: Setup) -> Result<Writer, Refusal> {
+    /// The state at the start, with pointer emulation or without; refusal 1.
+    pub fn fresh(setup: Setup, pointer: bool) -> Result<Writer, Refusal> {
         if !setup.is_good(Layout::Panel) {
             return Err(Refusal::Setup);
         }
-        Ok(Writer { setup, current: SlotNumber(0), counter: 0, table: EMPTY })
+        Ok(Writer { setup, current: SlotNumber(0), counter: 0, table: EMPTY, pointer: Pointer::fresh(pointer) })
     }
 
     /// Whether [`Writer::write`] takes this state; refusal 2 where it is not.
@@ -57,6 +63,7 @@ impl Writer {
             && self.counter <= LARGEST_ID
             && is_good_table(&self.setup, &self.table)
             && live_ids_differ(&self.table)
+            && self.pointer.is_well_formed(&self.setup, &self.table)
     }
 
     /// Sends what a frame changes as records into the buffer, from the position on; refusals 2 to 5.
@@ -78,6 +85,7 @@ impl Writer {
         self.send(&plan, room);
         self.table = plan.table;
         self.counter = plan.counter;
+        self.pointer = plan.pointer;
         Ok(plan.written)
     }
 
@@ -106,14 +114,16 @@ impl Writer {
             changed |= u32::from(differing != 0) << s;
             table[s] = new;
         }
-        let events = if changed == 0 {
-            0
-        } else {
+        let mut plan = Plan { table, counter, pointer: self.pointer, written: Written { events: 0, changed } };
+        // Where no contact's number changed, the display's are the old ones too.
+        if changed != 0 {
+            plan.pointer = self.pointer.after(&self.table, &table);
             // One SLOT for each changed slot but the current one, and the report.
             let without_slot = changed >> self.current.0 & 1;
-            numbers + changed.count_ones() - without_slot + 1
-        };
-        Some(Plan { table, counter, written: Written { events, changed } })
+            let emulated = self.pointer.told.changes_to(&plan.pointer.told).count();
+            plan.written.events = numbers + changed.count_ones() - without_slot + 1 + emulated;
+        }
+        Some(plan)
     }
 
     /// The numbers of a contact in a frame; `None` where one is out of its range.
@@ -149,6 +159,8 @@ impl Writer {
             let place = places.next().expect("the plan counted every event");
             place.copy_from_slice(&event.to_bytes());
         };
+        let display = self.pointer.told.changes_to(&plan.pointer.told);
+        display.touch.into_iter().for_each(&mut put);
         let mut put_slot = |s: usize, named: bool| {
             let (old, new) = (&self.table[s], &plan.table[s]);
             if named {
@@ -174,6 +186,7 @@ impl Writer {
             put_slot(last, true);
             others &= others - 1;
         }
+        display.others.into_iter().flatten().for_each(&mut put);
         put(Event::REPORT);
         debug_assert!(places.next().is_none());
         self.current = SlotNumber(last as u64);

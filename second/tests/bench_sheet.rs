@@ -22,7 +22,7 @@ const P1: [u8; 40] = [
 
 #[test]
 fn p1_to_p7_each_after_the_row_before() {
-    let mut writer = Writer::fresh(panel(2)).unwrap();
+    let mut writer = Writer::fresh(panel(2), false).unwrap();
 
     let mut buffer = [0; 40];
     let written = writer.write(&[1, 100, 200, 30, 0, 0, 0, 0, 0, 0, 0, 0], &mut buffer, 0);
@@ -141,7 +141,7 @@ fn run_p2_with_47_and_with_48_bytes_left() {
 #[test]
 fn run_n_0_1_32_33() {
     for (n, good) in [(0, false), (1, true), (32, true), (33, false)] {
-        let (reader, writer) = (Reader::fresh(Layout::Panel, panel(n)), Writer::fresh(panel(n)));
+        let (reader, writer) = (Reader::fresh(Layout::Panel, panel(n)), Writer::fresh(panel(n), false));
         assert_eq!(reader.is_ok(), good);
         assert_eq!(writer.is_ok(), good);
         if !good {

@@ -5,8 +5,12 @@ use second::script::{answer_line, is_passed_over, Call, BAD_LINE, WRITER_NUMBERS
 
 const CASES: &str = include_str!("../cases.txt");
 /// Those of the requests that `drive` did not always know.
-const LATER: [&str; 3] =
-    [include_str!("../cases_recorder.txt"), include_str!("../cases_force.txt"), include_str!("../cases_commands.txt")];
+const LATER: [&str; 4] = [
+    include_str!("../cases_recorder.txt"),
+    include_str!("../cases_force.txt"),
+    include_str!("../cases_commands.txt"),
+    include_str!("../cases_pointer.txt"),
+];
 
 #[test]
 fn every_case_is_a_named_call() {

@@ -22,7 +22,7 @@ fn glove() -> Writer {
 
 #[test]
 fn a_glove_lands() {
-    let mut writer = Writer::fresh(panel(1)).unwrap();
+    let mut writer = Writer::fresh(panel(1), false).unwrap();
     let events = sent(&mut writer, &[1, 100, 200, 30, 9, 7]);
     assert_eq!(events, ["ID 0", "X 100", "Y 200", "PRESSURE 30", "MAJOR 9", "MINOR 7", "REPORT"]);
     assert_eq!(writer, glove());
@@ -94,7 +94,7 @@ fn largest_sizes_out_of_their_range() {
     for (i, largest, is_good) in [(MAJOR, 0, false), (MAJOR, 1, true), (MINOR, 255, true), (MINOR, 256, false)] {
         let mut setup = panel(1);
         setup.largest[i] = largest;
-        assert_eq!(Writer::fresh(setup).is_ok(), is_good);
+        assert_eq!(Writer::fresh(setup, false).is_ok(), is_good);
         assert_eq!(Reader::fresh(Layout::Panel, setup).is_ok(), is_good);
         // A crane does not know of them.
         assert!(Reader::fresh(Layout::Crane, setup.known_to(Layout::Crane)).is_ok());
@@ -176,7 +176,7 @@ fn a_crane_shows_the_first_four_numbers_and_skips_the_sizes() {
     let (mut accepted, mut refused, mut sizes) = (0, 0, 0);
     for _ in 0..300 {
         let setup = any_setup(&mut random);
-        let mut writer = Writer::fresh(setup).unwrap();
+        let mut writer = Writer::fresh(setup, false).unwrap();
         let mut panel = Reader::fresh(Layout::Panel, setup).unwrap();
         let mut crane = Reader::fresh(Layout::Crane, setup.known_to(Layout::Crane)).unwrap();
         for _ in 0..40 {

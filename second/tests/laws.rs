@@ -8,7 +8,7 @@ use second::maker::Maker;
 use second::reader::{Mode, Ran, Reader};
 use second::script::Call;
 use second::table::{Layout, Slot, TrackingId, SLOTS};
-use second::writer::{Writer, LARGEST_FRAME, MOST_EVENTS};
+use second::writer::{Writer, LARGEST_FRAME, MOST_CONTACT_EVENTS, MOST_EVENTS};
 
 fn calls(seed: u64, count: usize) -> Vec<Call> {
     let mut maker = Maker::new(seed);
@@ -23,9 +23,38 @@ fn asked(before: &Slot, wanted: &[i32]) -> Slot {
     }
 }
 
+/// The eight numbers of a display, by type and code: touch, five tools, X and Y.
+fn display(writer: &Writer) -> Vec<Event> {
+    let told = writer.pointer.told;
+    let key = |code: u16, is_down: bool| Event { kind: 1, code, value: is_down.into() };
+    let tools = [0x145, 0x14d, 0x14e, 0x14f, 0x148].map(|code| key(code, told.tool == code));
+    let place = [Event::abs(0, told.x as i32), Event::abs(1, told.y as i32)];
+    [key(0x14a, told.touch == 1)].into_iter().chain(tools).chain(place).collect()
+}
+
+/// One event for each number of the display that changed, at most four: touch before all others, the rest just before the report.
+fn check_display(before: &Writer, after: &Writer, sent: &[Event]) -> usize {
+    let pairs = || display(before).into_iter().zip(display(after)).filter(|(old, new)| old != new);
+    let is_emulated = |event: &Event| !listed(Layout::Panel).contains(&(event.kind, event.code));
+    let emulated: Vec<Event> = sent.iter().copied().filter(is_emulated).collect();
+    assert!(emulated.len() <= 4 && emulated.len() == pairs().count());
+    assert!(pairs().all(|(_, new)| emulated.contains(&new)));
+    let (touch, rest): (Vec<&Event>, Vec<&Event>) = emulated.iter().partition(|event| event.code == 0x14a);
+    assert_eq!(sent.iter().take(touch.len()).collect::<Vec<_>>(), touch);
+    let behind = sent.len().saturating_sub(1);
+    assert_eq!(sent[behind.saturating_sub(rest.len())..behind].iter().collect::<Vec<_>>(), rest);
+    // The old tool, the new one, X, Y.
+    let place = |event: &&Event| match (event.kind, event.value) {
+        (1, value) => value,
+        (_, _) => 2 + i32::from(event.code),
+    };
+    assert!(rest.windows(2).all(|pair| place(&pair[0]) < place(&pair[1])));
+    emulated.len()
+}
+
 #[test]
 fn frames() {
-    let mut accepted = 0;
+    let (mut accepted, mut emulating) = (0, 0);
     for call in calls(21, 40_000) {
         let Call::Write { writer, position, size, frame } = call else {
             continue;
@@ -75,7 +104,12 @@ fn frames() {
             pending: writer.table,
         };
         let ran = reader.run(&buffer[start..end]).unwrap();
-        assert_eq!(ran, Ran { shown: u64::from(written.events > 0), ..Ran::NOTHING });
+        let sent: Vec<Event> = events(&buffer[start..end]).collect();
+        let emulated = check_display(&writer, &after, &sent);
+        assert_eq!((ran.shown, ran.bad, ran.ignored), (u64::from(written.events > 0), 0, 0));
+        // No reader knows the emulated ones, and they change nothing in its tables.
+        assert_eq!(ran.skipped() as usize, emulated);
+        emulating += usize::from(emulated > 0);
         assert_eq!(reader.shown, after.table);
         assert_eq!(reader.pending, after.table);
         assert_eq!(reader.current, after.current);
@@ -91,11 +125,11 @@ fn frames() {
             .sum();
         let current = writer.current.0 as usize;
         let free = usize::from(after.table[current] != writer.table[current]);
-        let fewest = if slots == 0 { 0 } else { numbers + slots - free + 1 };
+        let fewest = if slots == 0 { 0 } else { numbers + slots - free + 1 + emulated };
         assert_eq!(written.events as usize, fewest);
         assert_eq!(written.changed.count_ones() as usize, slots);
     }
-    assert!(accepted > 2000);
+    assert!(accepted > 2000 && emulating > 300, "{accepted} {emulating}");
 }
 
 fn five(ran: &Ran) -> [u64; 5] {
@@ -139,13 +173,15 @@ fn runs_are_their_records_one_after_the_other() {
 #[test]
 fn all_slots_land_in_the_most_events() {
     let setup = common::panel(SLOTS as u64);
-    let mut writer = Writer::fresh(setup).unwrap();
-    let frame = [1, 1, 1, 1, 1, 1].repeat(SLOTS);
-    let mut buffer = [0; LARGEST_FRAME];
-    assert_eq!((MOST_EVENTS, LARGEST_FRAME), (224, 1_792));
-    assert_eq!(writer.write(&frame, &mut buffer, 0).unwrap().events as usize, MOST_EVENTS);
-    let mut reader = Reader::fresh(Layout::Panel, setup).unwrap();
-    reader.run(&buffer).unwrap();
-    assert_eq!(reader.shown, writer.table);
-    assert_eq!(bytes(&[Event::REPORT]), buffer[LARGEST_FRAME - RECORD..]);
+    assert_eq!((MOST_CONTACT_EVENTS, MOST_EVENTS, LARGEST_FRAME), (224, 228, 1_824));
+    for (pointer, most) in [(false, MOST_CONTACT_EVENTS), (true, MOST_EVENTS)] {
+        let mut writer = Writer::fresh(setup, pointer).unwrap();
+        let frame = [1, 1, 1, 1, 1, 1].repeat(SLOTS);
+        let mut buffer = vec![0; most * RECORD];
+        assert_eq!(writer.write(&frame, &mut buffer, 0).unwrap().events as usize, most);
+        let mut reader = Reader::fresh(Layout::Panel, setup).unwrap();
+        reader.run(&buffer).unwrap();
+        assert_eq!(reader.shown, writer.table);
+        assert!(buffer.ends_with(&bytes(&[Event::REPORT])));
+    }
 }

@@ -60,6 +60,12 @@ fn accepted_and_refused() {
     }
     assert_eq!(run("write_frames", &frame(1)), Some(0));
     assert_eq!(run("write_frames", &frame(3)), Some(1));
+    let pointing = |bytes: &[u8]| output(&mut second(&["write_frames", "--pointer"]), bytes);
+    assert_eq!(pointing(&frame(3)).status.code(), Some(1));
+    // BTN_TOUCH, the id, pressure, the tool and the report, behind the setup.
+    let told = pointing(&frame(1));
+    assert_eq!((told.status.code(), told.stdout.len()), (Some(0), 24 + 5 * 8));
+    assert_eq!(told.stdout[24..32], [1, 0, 0x4a, 1, 1, 0, 0, 0]);
     assert_eq!(run("show_pod", &[0, 0xF7]), Some(0));
     assert_eq!(run("show_force", &[0, 43, 2, 0, 41]), Some(0));
     for refused in [&[43][..], &[43, 1, 17], &[43, 2, 0, 40]] {
@@ -165,12 +171,12 @@ fn many_inputs_with_their_answers() {
     let _turn = turn();
     let folder = std::env::temp_dir().join(format!("second-noises-{}", std::process::id()));
     fs::create_dir(&folder).unwrap();
-    for program in PROGRAMS {
+    for program in PROGRAMS.into_iter().chain(["write_frames --pointer"]) {
         check(&output(&mut second(&["noises", program, "5", "30", "12", folder.to_str().unwrap()]), b""), 0, "");
         for index in 30..42 {
             let kept = |part: &str| fs::read(folder.join(format!("{index}.{part}"))).unwrap();
             let input = output(&mut second(&["noise", program, "5", &index.to_string()]), b"").stdout;
-            let said = output(&mut second(&[program]), &input);
+            let said = output(&mut second(&program.split(' ').collect::<Vec<_>>()), &input);
             let status = format!("{}\n", said.status.code().unwrap()).into_bytes();
             assert_eq!(
                 (kept("in"), kept("out"), kept("err"), kept("status")),
@@ -215,13 +221,24 @@ fn answers_that_differ() {
 #[test]
 fn an_argument_is_one_too_many() {
     let _turn = turn();
+    let said = |name: &str, argument: &str| {
+        let taken = if name == "write_frames" { " but --pointer" } else { "" };
+        format!("{name}: no argument{taken} is taken, and '{argument}' is one; a file is given as {name} < FILE\n")
+    };
     for name in PROGRAMS {
         let output = output(&mut second(&[name, "a b", "c"]), b"");
-        check(
-            &output,
-            2,
-            &format!("{name}: no argument is taken, and 'a b' is one; a file is given as {name} < FILE\n"),
-        );
+        check(&output, 2, &said(name, "a b"));
         assert!(output.stdout.is_empty());
+    }
+    for (words, argument) in [
+        (&["write_frames", "--pointers"][..], "--pointers"),
+        (&["write_frames", "--pointer=1"], "--pointer=1"),
+        (&["write_frames", ""], ""),
+        (&["write_frames", "pointer", "--pointer"], "pointer"),
+        (&["write_frames", "--pointer", "--pointer"], "--pointer"),
+        (&["write_frames", "--pointer", "a"], "a"),
+        (&["record", "--pointer"], "--pointer"),
+    ] {
+        check(&output(&mut second(words), b""), 2, &said(words[0], argument));
     }
 }

@@ -8,7 +8,7 @@ use second::random::Random;
 use second::reader::{Asked, Mode, Ran, Reader};
 use second::refusal::Refusal;
 use second::table::{Layout, Slot, SlotNumber, Table, TrackingId, EMPTY, SLOTS};
-use second::writer::{Writer, Written, LARGEST_FRAME, MOST_EVENTS};
+use second::writer::{Writer, Written, LARGEST_FRAME, MOST_CONTACT_EVENTS};
 
 const UNUSED: [Slot; SLOTS] = EMPTY;
 
@@ -58,7 +58,7 @@ fn two(changed: u32) -> Written {
 
 #[test]
 fn every_number_of_32_slots() {
-    assert_eq!((MOST_EVENTS, LARGEST_FRAME), (1 + 6 * 32 + 31, 1_792));
+    assert_eq!((MOST_CONTACT_EVENTS, LARGEST_FRAME), (1 + 6 * 32 + 31, 1_792 + 4 * 8));
     let fresh = writer(9, 0, &UNUSED);
     let frame = [1, 1, 1, 1, 1, 1].repeat(SLOTS);
     let mut buffer = [7; 1_800];
@@ -75,7 +75,7 @@ fn every_number_of_32_slots() {
 #[test]
 fn one_to_32_slots() {
     for n in 1..=SLOTS {
-        let mut fresh = Writer::fresh(panel(n as u64)).unwrap();
+        let mut fresh = Writer::fresh(panel(n as u64), false).unwrap();
         let (events, written) = write(&mut fresh, &[1, 1, 1, 1, 1, 1].repeat(n)).unwrap();
         assert_eq!(events.len(), 1 + 6 * n + (n - 1));
         assert_eq!(written.changed.count_ones() as usize, n);
@@ -150,7 +150,7 @@ fn the_last_slot_lifts_and_lands() {
 #[test]
 fn frames_and_images_of_wide_panels() {
     for n in [17, 31, 32] {
-        let fresh = Writer::fresh(panel(n)).unwrap();
+        let fresh = Writer::fresh(panel(n), false).unwrap();
         let good = [1, 1, 1, 1, 0, 0].repeat(n as usize);
         for length in [0, 96, good.len() - 6, good.len() - 1, good.len() + 1, good.len() + 6] {
             let mut frame = good.clone();
@@ -166,7 +166,7 @@ fn frames_and_images_of_wide_panels() {
         }
     }
     for n in [33, 34, 64, 1 << 32 | 32] {
-        assert_eq!(Writer::fresh(panel(n)), Err(Refusal::Setup));
+        assert_eq!(Writer::fresh(panel(n), false), Err(Refusal::Setup));
         assert_eq!(Reader::fresh(Layout::Panel, panel(n)), Err(Refusal::Setup));
     }
     for n in 17..=33 {
@@ -194,7 +194,7 @@ fn a_wide_panel_reads_back() {
     let mut random = Random::new(77);
     let mut changed = [0u32; SLOTS];
     for n in (17..=SLOTS).flat_map(|n| [n; 4]) {
-        let mut held = Writer::fresh(panel(n as u64)).unwrap();
+        let mut held = Writer::fresh(panel(n as u64), false).unwrap();
         let mut reader = Reader::fresh(Layout::Panel, panel(n as u64)).unwrap();
         for _ in 0..50 {
             let frame = any_frame(&mut random, &held.table, n);

@@ -6,6 +6,7 @@ use panel::RECORDS;
 use panel::Setup;
 use panel::Slot;
 use pod::PodState;
+use pointer::Pointer;
 use reader::FreshAnswer;
 use reader::ReaderState;
 use stream::Out;
@@ -19,6 +20,17 @@ const LARGEST: u32 = 4000;
 const HARDEST: u32 = 255;
 
 const WIDEST: u32 = 255;
+
+fn setup_of(n: usize) -> Setup {
+    Setup {
+        n,
+        x: LARGEST,
+        y: LARGEST,
+        pressure: HARDEST,
+        major: WIDEST,
+        minor: WIDEST,
+    }
+}
 
 // Where P2's bytes begin in their buffers, and what the buffers hold before: no record of P2 has this byte, so a byte that was touched shows.
 const AT: usize = 3;
@@ -43,7 +55,30 @@ fn say_mode(page: &mut [u8], out: Out, m: Mode) -> Out {
     }
 }
 
-fn say_writer(page: &mut [u8], out: Out, s: WriterState) -> Out {
+fn say_told(page: &mut [u8], out: Out, p: Pointer) -> Out {
+    let a = words::say_part(page, out, b" touch", p.touch as u64);
+    let b = words::say_part(page, a, b" tool", p.tool as u64);
+    let c = words::say_part(page, b, b" x", p.x as u64);
+    words::say_part(page, c, b" y", p.y as u64)
+}
+
+// By itself, since an array that is lent is known to have its length, which spares a proof that a field does.
+fn say_ranks(page: &mut [u8], out: Out, ranks: &[u8; RECORDS]) -> Out {
+    let a = stream::say(page, out, b" ranks");
+    words::say_bytes(page, a, ranks)
+}
+
+// What a writer holds for pointer emulation.
+fn say_pointer(page: &mut [u8], out: Out, s: WriterState) -> Out {
+    let told = s.told;
+    let ranks = s.ranks;
+    let a = stream::say(page, out, b" pointer");
+    let b = words::say_bit(page, a, s.pointer);
+    let c = say_told(page, b, told);
+    say_ranks(page, c, &ranks)
+}
+
+fn say_contacts(page: &mut [u8], out: Out, s: WriterState) -> Out {
     let setup = s.setup;
     let current = s.current;
     let table = s.table;
@@ -51,6 +86,11 @@ fn say_writer(page: &mut [u8], out: Out, s: WriterState) -> Out {
     let b = words::say_part(page, a, b" current", current.0 as u64);
     let c = words::say_part(page, b, b" counter", s.counter as u64);
     say_table(page, c, b" table", table)
+}
+
+fn say_writer(page: &mut [u8], out: Out, s: WriterState) -> Out {
+    let a = say_contacts(page, out, s);
+    say_pointer(page, a, s)
 }
 
 fn say_reader(page: &mut [u8], out: Out, s: ReaderState) -> Out {
@@ -91,7 +131,7 @@ fn say_all_bytes(page: &mut [u8], out: Out, buf: &[u8]) -> Out {
 
 // Id 7 is live while its own contact is replaced, so the new one takes 8: a writer that frees it first would send nothing.
 fn counter_case(page: &mut [u8], out: Out) -> Out {
-    let fresh = WriterState::fresh(1, LARGEST, LARGEST, HARDEST, WIDEST, WIDEST);
+    let fresh = WriterState::fresh(setup_of(1), false);
     let mut state = fresh.state;
     state.table[0] = Slot {
         id: TrackingId(7),
@@ -110,7 +150,7 @@ fn counter_case(page: &mut [u8], out: Out) -> Out {
 
 // K8: a frame of one row for a writer of one slot whose contact, of an older table, has pressure 0.
 fn pressure_case(page: &mut [u8], out: Out, name: &[u8], kind: i32, pressure: i32) -> Out {
-    let fresh = WriterState::fresh(1, LARGEST, LARGEST, HARDEST, WIDEST, WIDEST);
+    let fresh = WriterState::fresh(setup_of(1), false);
     let mut state = fresh.state;
     state.table[0] = Slot {
         id: TrackingId(0),
@@ -136,7 +176,7 @@ fn pressure_cases(page: &mut [u8], out: Out) -> Out {
 
 // K1: a gloved contact, of one slot, on a state that was never used.
 fn glove_lands(page: &mut [u8], out: Out) -> Out {
-    let fresh = WriterState::fresh(1, LARGEST, LARGEST, HARDEST, WIDEST, WIDEST);
+    let fresh = WriterState::fresh(setup_of(1), false);
     let state = fresh.state;
     let frame = [1, 100, 200, 30, 80, 40];
     let mut buf = [FILLED; 56];
@@ -146,7 +186,7 @@ fn glove_lands(page: &mut [u8], out: Out) -> Out {
 
 // A frame of one row after that contact: it is there with id 0, or was lifted.
 fn glove_case(page: &mut [u8], out: Out, name: &[u8], id: i32, frame: &[i32]) -> Out {
-    let fresh = WriterState::fresh(1, LARGEST, LARGEST, HARDEST, WIDEST, WIDEST);
+    let fresh = WriterState::fresh(setup_of(1), false);
     let mut state = fresh.state;
     state.table[0] = Slot {
         id: TrackingId(id),
@@ -175,8 +215,71 @@ fn glove_cases(page: &mut [u8], out: Out) -> Out {
     glove_case(page, c, b"major 256", 0, &[1, 100, 200, 30, 256, 40])
 }
 
+// K6: a writer of two slots with pointer emulation, and the output so far.
+struct Pointing {
+    state: WriterState,
+    out: Out,
+}
+
+// The next frame of that writer. The first touch fills the buffer: no other of the frames has as many events.
+fn pointer_case(page: &mut [u8], before: Pointing, name: &[u8], frame: &[i32]) -> Pointing {
+    let state = before.state;
+    let out = before.out;
+    let mut buf = [FILLED; 72];
+    let a = writer::write(state, frame, &mut buf, 0);
+    let after = a.state;
+    Pointing {
+        state: after,
+        out: say_written(page, out, name, a, &buf),
+    }
+}
+
+const FIRST_TOUCH: [i32; 12] = [1, 100, 200, 30, 0, 0, 0, 0, 0, 0, 0, 0];
+
+fn pointer_begins(page: &mut [u8], out: Out) -> Pointing {
+    let fresh = WriterState::fresh(setup_of(2), true);
+    let state = fresh.state;
+    let begun = Pointing { state, out };
+    let a = pointer_case(page, begun, b"a first touch", &FIRST_TOUCH);
+    let both = [1, 100, 200, 30, 0, 0, 1, 300, 400, 30, 0, 0];
+    pointer_case(page, a, b"a second finger", &both)
+}
+
+fn pointer_ends(page: &mut [u8], before: Pointing) -> Out {
+    let younger = [0, 0, 0, 0, 0, 0, 1, 300, 400, 30, 0, 0];
+    let a = pointer_case(page, before, b"the oldest lifts", &younger);
+    let b = pointer_case(page, a, b"all lift", &[0; 12]);
+    b.out
+}
+
+// The need counts the emulated events: the first touch has five of its own, in 40 bytes.
+fn pointer_room(page: &mut [u8], out: Out) -> Out {
+    let fresh = WriterState::fresh(setup_of(2), true);
+    let state = fresh.state;
+    let mut buf = [FILLED; 71];
+    let a = writer::write(state, &FIRST_TOUCH, &mut buf, 0);
+    say_written(page, out, b"a first touch with 71", a, &buf)
+}
+
+// With the option off a state that holds a rank is not well formed.
+fn stray_rank(page: &mut [u8], out: Out) -> Out {
+    let fresh = WriterState::fresh(setup_of(2), false);
+    let mut state = fresh.state;
+    state.ranks[1] = 1;
+    let mut buf = [FILLED; 40];
+    let a = writer::write(state, &FIRST_TOUCH, &mut buf, 0);
+    say_written(page, out, b"a rank without the option", a, &buf)
+}
+
+fn pointer_cases(page: &mut [u8], out: Out) -> Out {
+    let a = pointer_begins(page, out);
+    let b = pointer_ends(page, a);
+    let c = pointer_room(page, b);
+    stray_rank(page, c)
+}
+
 fn after_p1() -> WriterState {
-    let fresh = WriterState::fresh(2, LARGEST, LARGEST, HARDEST, WIDEST, WIDEST);
+    let fresh = WriterState::fresh(setup_of(2), false);
     let first = fresh.state;
     let frame = [1, 100, 200, 30, 0, 0, 0, 0, 0, 0, 0, 0];
     let mut buf = [0; 40];
@@ -214,11 +317,7 @@ fn say_fresh_reader(page: &mut [u8], out: Out, a: FreshAnswer) -> Out {
 }
 
 fn say_freshes(page: &mut [u8], out: Out, n: usize) -> Out {
-    let a = say_fresh_writer(
-        page,
-        out,
-        WriterState::fresh(n, LARGEST, LARGEST, HARDEST, WIDEST, WIDEST),
-    );
+    let a = say_fresh_writer(page, out, WriterState::fresh(setup_of(n), false));
     say_fresh_reader(
         page,
         a,
@@ -245,7 +344,7 @@ fn say_name(page: &mut [u8], out: Out, name: &[u8]) -> Out {
     stream::say(page, a, b":")
 }
 
-// By itself, since an array that is lent is known to have its length, which spares a proof that a field does.
+// By itself, as `say_ranks`.
 fn say_held(page: &mut [u8], out: Out, count: usize, held: &[u8; pod::PLACES]) -> Out {
     let a = words::say_part(page, out, b" count", count as u64);
     say_all_bytes(page, a, held)
@@ -327,13 +426,19 @@ fn pod_cases(page: &mut [u8], out: Out) -> Out {
     time_cases(page, d)
 }
 
+// K8, K1 and K6 of a writer.
+fn request_cases(page: &mut [u8], out: Out) -> Out {
+    let a = pressure_cases(page, out);
+    let b = glove_cases(page, a);
+    pointer_cases(page, b)
+}
+
 fn answer(page: &mut [u8], out: Out) -> Out {
     let a = counter_case(page, out);
     let b = pod_cases(page, a);
     let c = room_cases(page, b);
-    let d = pressure_cases(page, c);
-    let e = glove_cases(page, d);
-    setup_cases(page, e)
+    let d = request_cases(page, c);
+    setup_cases(page, d)
 }
 
 fn main() {

@@ -8,6 +8,7 @@ use drive_devices::parts;
 use drive_lines::calls::Call;
 use drive_lines::calls::NUMBERS;
 use drive_lines::calls::READER;
+use drive_lines::calls::SETUP;
 use drive_lines::calls::WRITER;
 use drive_lines::values;
 use reader::ReaderState;
@@ -26,8 +27,7 @@ fn fresh(page: &mut [u8], out: Out, ns: &[u64]) -> Out {
 }
 
 fn new(page: &mut [u8], out: Out, ns: &[u64]) -> Out {
-    let s = states::setup_of(ns);
-    let a = WriterState::fresh(s.n, s.x, s.y, s.pressure, s.major, s.minor);
+    let a = WriterState::fresh(states::setup_of(ns), states::option_of(ns, SETUP));
     let verdict = a.verdict;
     let state = a.state;
     let o = parts::verdict(page, out, verdict);

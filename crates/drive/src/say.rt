@@ -7,6 +7,7 @@ use drive_devices::parts;
 use panel::RECORDS;
 use panel::Setup;
 use panel::Slot;
+use pointer::Pointer;
 use reader::ReaderState;
 use reader::SlotAnswer;
 use stream::Out;
@@ -42,7 +43,28 @@ pub fn reader_state(page: &mut [u8], out: Out, s: ReaderState) -> Out {
     table(page, d, pending)
 }
 
-pub fn writer_state(page: &mut [u8], out: Out, s: WriterState) -> Out {
+fn told(page: &mut [u8], out: Out, p: Pointer) -> Out {
+    let a = words::say_number(page, out, p.touch as u64);
+    let b = words::say_number(page, a, p.tool as u64);
+    let c = words::say_number(page, b, p.x as u64);
+    words::say_number(page, c, p.y as u64)
+}
+
+// By itself, since an array that is lent is known to have its length, which spares a proof that a field does.
+fn ranks(page: &mut [u8], out: Out, rs: &[u8; RECORDS]) -> Out {
+    words::say_bytes(page, out, rs)
+}
+
+// The option, the numbers told last and the ranks, which end a writer's numbers.
+fn emulation(page: &mut [u8], out: Out, s: WriterState) -> Out {
+    let last = s.told;
+    let rs = s.ranks;
+    let a = words::say_bit(page, out, s.pointer);
+    let b = told(page, a, last);
+    ranks(page, b, &rs)
+}
+
+fn contacts(page: &mut [u8], out: Out, s: WriterState) -> Out {
     let u = s.setup;
     let current = s.current;
     let t = s.table;
@@ -50,6 +72,11 @@ pub fn writer_state(page: &mut [u8], out: Out, s: WriterState) -> Out {
     let b = parts::number(page, a, current.0);
     let c = words::say_number(page, b, s.counter as u64);
     table(page, c, t)
+}
+
+pub fn writer_state(page: &mut [u8], out: Out, s: WriterState) -> Out {
+    let a = contacts(page, out, s);
+    emulation(page, a, s)
 }
 
 fn first(page: &mut [u8], out: Out, f: FirstSkipped) -> Out {

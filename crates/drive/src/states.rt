@@ -2,6 +2,8 @@
 use common::Mode;
 use common::SlotNumber;
 use common::TrackingId;
+use drive_lines::calls::OPTION;
+use drive_lines::calls::RANKS;
 use drive_lines::calls::SETUP;
 use drive_lines::calls::TABLE;
 use drive_lines::values;
@@ -9,6 +11,7 @@ use panel::PER_SLOT;
 use panel::RECORDS;
 use panel::Setup;
 use panel::Slot;
+use pointer::Pointer;
 use reader::ReaderState;
 use writer::WriterState;
 ghost use Prim.Native.Nat.{_≤_};
@@ -68,11 +71,34 @@ pub fn reader_of(ns: &[u64]) -> ReaderState {
     }
 }
 
+// What an old display was told last: the numbers behind the option.
+fn told_of(ns: &[u64]) -> Pointer {
+    Pointer {
+        x: values::natural(ns, OPTION + 3),
+        y: values::natural(ns, OPTION + 4),
+        tool: values::half(ns, OPTION + 2),
+        touch: values::byte(ns, OPTION + 1),
+    }
+}
+
+fn ranks_of(ns: &[u64]) -> [u8; RECORDS] {
+    let mut ranks = [0u8; RECORDS];
+    values::bytes_of(ns, RANKS, &mut ranks);
+    ranks
+}
+
+pub fn option_of(ns: &[u64], i: usize) -> bool {
+    values::number(ns, i) == 1
+}
+
 pub fn writer_of(ns: &[u64]) -> WriterState {
     WriterState {
-        setup: setup_of(ns),
         table: table_of(ns, SETUP + 2),
+        ranks: ranks_of(ns),
+        setup: setup_of(ns),
         current: SlotNumber(values::number(ns, SETUP) as usize),
         counter: values::natural(ns, SETUP + 1),
+        told: told_of(ns),
+        pointer: option_of(ns, OPTION),
     }
 }

@@ -55,7 +55,12 @@ pub const TABLE: usize = PER_SLOT * RECORDS;
 
 pub const READER: usize = SETUP + 2 + 2 * TABLE;
 
-pub const WRITER: usize = SETUP + 2 + TABLE;
+// Behind a writer's table stand the option of pointer emulation, the four numbers told last (touch, tool, X, Y), and a rank for each record.
+pub const OPTION: usize = SETUP + 2 + TABLE;
+
+pub const RANKS: usize = OPTION + 5;
+
+pub const WRITER: usize = RANKS + RECORDS;
 
 pub const POD: usize = 2 + pod::PLACES;
 
@@ -329,9 +334,23 @@ fn pieces_kind(call: Call, i: usize) -> Kind {
     after_pieces(call, i - PIECES)
 }
 
+// Number i of those from a writer's option on.
+fn pointer_kind(i: usize) -> Kind {
+    match i {
+        0 => Kind::Bit,
+        1 => Kind::Bits8,
+        2 => Kind::Bits16,
+        3..=4 => Kind::Bits32,
+        _ => Kind::Bits8,
+    }
+}
+
 fn write_kind(i: usize) -> Kind {
-    if i < WRITER {
+    if i < OPTION {
         return state_kind(i, Kind::Bits32);
+    }
+    if i < WRITER {
+        return pointer_kind(i - OPTION);
     }
     match i - WRITER {
         0 => Kind::Bits64,
@@ -345,6 +364,14 @@ fn setup_kind(i: usize) -> Kind {
         return state_kind(i, Kind::None);
     }
     Kind::None
+}
+
+// A setup, then the option.
+fn new_kind(i: usize) -> Kind {
+    if i == SETUP {
+        return Kind::Bit;
+    }
+    setup_kind(i)
 }
 
 fn pod_kind(i: usize) -> Kind {
@@ -415,7 +442,7 @@ fn commands_write_kind(i: usize) -> Kind {
 pub fn kind_at(call: Call, i: usize) -> Kind {
     match call {
         Call::Fresh => setup_kind(i),
-        Call::New => setup_kind(i),
+        Call::New => new_kind(i),
         Call::Write => write_kind(i),
         Call::Start => Kind::None,
         Call::Pod => pod_kind(i),
@@ -445,7 +472,7 @@ pub fn kind_at(call: Call, i: usize) -> Kind {
 pub fn fewest(call: Call) -> usize {
     match call {
         Call::Fresh => SETUP,
-        Call::New => SETUP,
+        Call::New => SETUP + 1,
         Call::Run => READER,
         Call::One => READER + 3,
         Call::Load => READER + 1,

@@ -1,6 +1,7 @@
-// A record in a line: its name in evtest's words, its value, and what the reader did with it.
+// A record in a line: its name, its value, and what the reader did with it.
 use crate::deeds::Deed;
 use crate::deeds::Read;
+use crate::names;
 use crate::why;
 use common::Mode;
 use common::TrackingId;
@@ -9,68 +10,6 @@ use panel::Slot;
 use reader::ReaderState;
 use records::Event;
 use stream::Out;
-
-// A number as it came, with its name.
-pub fn say_value(page: &mut [u8], out: Out, name: &[u8], value: u32) -> Out {
-    let a = stream::say(page, out, name);
-    let b = stream::say(page, a, b" ");
-    stream::say_signed(page, b, records::signed_of(value))
-}
-
-fn say_unlisted(page: &mut [u8], out: Out, e: Event) -> Out {
-    let a = words::say_part(page, out, b"type", e.kind as u64);
-    let b = words::say_part(page, a, b" code", e.code as u64);
-    say_value(page, b, b" value", e.value)
-}
-
-fn say_syn(page: &mut [u8], out: Out, e: Event) -> Out {
-    if e.code == records::REPORT {
-        return say_value(page, out, b"SYN_REPORT", e.value);
-    }
-    if e.code == records::DROPPED {
-        return say_value(page, out, b"SYN_DROPPED", e.value);
-    }
-    say_unlisted(page, out, e)
-}
-
-fn say_size(page: &mut [u8], out: Out, e: Event) -> Out {
-    if e.code == records::TOUCH_MAJOR {
-        return say_value(page, out, b"ABS_MT_TOUCH_MAJOR", e.value);
-    }
-    if e.code == records::TOUCH_MINOR {
-        return say_value(page, out, b"ABS_MT_TOUCH_MINOR", e.value);
-    }
-    say_unlisted(page, out, e)
-}
-
-fn say_abs(page: &mut [u8], out: Out, e: Event) -> Out {
-    if e.code == records::SLOT {
-        return say_value(page, out, b"ABS_MT_SLOT", e.value);
-    }
-    if e.code == records::TRACKING_ID {
-        return say_value(page, out, b"ABS_MT_TRACKING_ID", e.value);
-    }
-    if e.code == records::POSITION_X {
-        return say_value(page, out, b"ABS_MT_POSITION_X", e.value);
-    }
-    if e.code == records::POSITION_Y {
-        return say_value(page, out, b"ABS_MT_POSITION_Y", e.value);
-    }
-    if e.code == records::PRESSURE {
-        return say_value(page, out, b"ABS_MT_PRESSURE", e.value);
-    }
-    say_size(page, out, e)
-}
-
-fn say_name(page: &mut [u8], out: Out, e: Event) -> Out {
-    if e.kind == records::SYN {
-        return say_syn(page, out, e);
-    }
-    if e.kind == records::ABS {
-        return say_abs(page, out, e);
-    }
-    say_unlisted(page, out, e)
-}
 
 // The slot k of a table that has one.
 fn slot_at(table: [Slot; RECORDS], k: usize) -> Slot {
@@ -215,14 +154,28 @@ fn say_ignored(page: &mut [u8], out: Out, before: Mode, after: Mode) -> Out {
     stream::say(page, a, b"; the mode is dropped now")
 }
 
+// A name that is listed and still skipped asks for a reason.
+fn say_display(page: &mut [u8], out: Out, e: Event) -> Out {
+    if !names::is_emulated(e) {
+        return out;
+    }
+    stream::say(
+        page,
+        out,
+        b": it is for an old display, and a reader of contacts skips it",
+    )
+}
+
 fn say_skipped_type(page: &mut [u8], out: Out, e: Event) -> Out {
     let a = words::say_part(page, out, b"skipped: type", e.kind as u64);
-    stream::say(page, a, b" is unknown")
+    let b = stream::say(page, a, b" is unknown");
+    say_display(page, b, e)
 }
 
 fn say_skipped_code(page: &mut [u8], out: Out, e: Event) -> Out {
     let a = words::say_part(page, out, b"skipped: code", e.code as u64);
-    words::say_part(page, a, b" is unknown for type", e.kind as u64)
+    let b = words::say_part(page, a, b" is unknown for type", e.kind as u64);
+    say_display(page, b, e)
 }
 
 fn say_deed(page: &mut [u8], out: Out, r: Read) -> Out {
@@ -256,7 +209,7 @@ fn say_deed(page: &mut [u8], out: Out, r: Read) -> Out {
 
 pub fn say_line(page: &mut [u8], out: Out, r: Read) -> Out {
     let e = r.event;
-    let a = say_name(page, out, e);
+    let a = names::say_name(page, out, e);
     let b = stream::say(page, a, b": ");
     let c = say_deed(page, b, r);
     stream::say(page, c, b"\n")

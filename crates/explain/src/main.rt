@@ -1,6 +1,7 @@
 // Explains event records one by one, for a class and a service desk. Standard input is what show_table reads; standard output has a line for each record, with what the reader did with it and why, and at the end the mode and the counts.
 mod deeds;
 mod lines;
+mod names;
 mod sums;
 mod why;
 

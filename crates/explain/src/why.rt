@@ -1,5 +1,5 @@
 // Why a record was bad: the range that its value missed, or the id that stands twice.
-use crate::lines;
+use crate::names;
 use common::TrackingId;
 use panel::RECORDS;
 use panel::Setup;
@@ -10,7 +10,7 @@ use stream::Out;
 
 // The value with its name, and the range that it missed.
 fn say_range(page: &mut [u8], out: Out, name: &[u8], value: u32, lowest: &[u8], most: u64) -> Out {
-    let a = lines::say_value(page, out, name, value);
+    let a = names::say_value(page, out, name, value);
     let b = stream::say(page, a, b" is not ");
     let c = stream::say(page, b, lowest);
     words::say_part(page, c, b" to", most)

@@ -6,6 +6,7 @@ ghost use Rattle.reader.specs.States.{seen};
 ghost use Rattle.reader.specs.Seen.{askedFrom};
 ghost use Rattle.hold_to_lift.specs.Key.{lifts};
 use common::SlotNumber;
+use panel::Setup;
 use reader::ReaderState;
 use reader::SlotAnswer;
 use records::Event;
@@ -38,7 +39,16 @@ fn with_finger(before: ReaderState) -> ReaderState {
     // The frame of a panel of one slot: kind, x, y, pressure and both sizes. Kind 1 is a finger on the slot.
     let frame = [1, 100, 200, 30, 80, 40];
     let mut events = [0u8; 56];
-    let fresh = WriterState::fresh(1, 4000, 4000, 255, 255, 255);
+    let setup = Setup {
+        n: 1,
+        x: 4000,
+        y: 4000,
+        pressure: 255,
+        major: 255,
+        minor: 255,
+    };
+    // Without pointer emulation, which only an old display needs.
+    let fresh = WriterState::fresh(setup, false);
     let state = fresh.state;
     // Every answer has a verdict; this one is Accepted, and count is 7.
     writer::write(state, &frame, &mut events, 0);

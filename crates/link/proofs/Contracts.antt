@@ -21,8 +21,7 @@ use Rattle.crane_reader.proofs.run.Reads as crane-run
 use Rattle.link.specs.Promises.{WriterMade, Wrote, ReaderMade, Ran, ReadOne, Loaded, Asked}
 use Rattle.link.specs.Cranes.{CraneMade, CraneRan}
 
-pub writer-made-is : (κs : _) (a : _) (r : FreshWriter) (t : _) → writer-fresh.Learnt κs a r t
-    → WriterMade (record { n = a .0; x = a .1 .0; y = a .1 .1 .0; pressure = a .1 .1 .1 .0; major = a .1 .1 .1 .1 .0; minor = a .1 .1 .1 .1 .1 .0 }) r
+pub writer-made-is : (κs : _) (a : _) (r : FreshWriter) (t : _) → writer-fresh.Learnt κs a r t → WriterMade (a .0) (a .1 .0) r
 writer-made-is κs a r t e = e
 
 pub wrote-is : (κs : _) (a : _) (r : Written) (t : _) → write.Learnt κs a r t

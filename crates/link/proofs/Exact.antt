@@ -1,16 +1,19 @@
 -- Demand 1 of the code, refusals exactly as stated: for each call and each of its refusals, document 01's number is answered if and only if its test
 -- fails and the earlier ones pass, and 0 if and only if all pass. Cited by docs/PROMISES.md. Assumes nothing.
 use mathlib.Core.Path.{_≡_, sym, ap, _∙_, subst}
+use mathlib.Core.Bool.{Bool}
 use mathlib.Core.List.{List}
 use Prim.Native.Nat.{ℕ}
 use lib.IntN.{ℤ}
 use lib.ListN.{length}
 use Rattle.model.specs.Panel.{base}
 use Rattle.model.specs.Calls as C
-use Rattle.model.specs.Calls.{freshWriterCall, freshReaderCall, writeCall, runCall, stepCall, loadCall}
-use Rattle.model.specs.Refusals.{Row, Exact, freshRows, writeRows, runRows, stateRows, loadRows}
+use Rattle.model.specs.Calls.{freshReaderCall, runCall, stepCall, loadCall}
+use Rattle.model.specs.Refusals.{Row, Exact, freshRows, runRows, stateRows, loadRows}
+use Rattle.model.specs.Pointing.{freshPointerCall, pointerCall, pointerRows}
 use Rattle.model.proofs.Calls.{ask-exact}
 use Rattle.model.proofs.Exact as M
+use Rattle.model.proofs.PointerCalls.{fresh-pointer-exact, pointer-exact}
 use Rattle.panel.specs.declared.Setup.{Setup}
 use Rattle.common.specs.declared.Verdict.{Verdict}
 use Rattle.panel.specs.Seen.{setupOf}
@@ -36,19 +39,19 @@ use Rattle.link.specs.Promises.{WriterMade, Wrote, ReaderMade, Ran, Read
 pub held-exact : (rows : List Row) (w : C.Verdict) (v : Verdict) → v ≡ verdictFrom w → Exact (C.verdictNumber w) rows → Exact (verdictNumber v) rows
 held-exact rows w v e x = subst (λ n. Exact n rows) (sym (ap verdictNumber e ∙ number-seen w)) x
 
--- `WriterState::fresh`: 1.
-pub writer-made-exact : (u : Setup) (r : FreshWriter) → WriterMade u r → Exact (verdictNumber (r .verdict)) (freshRows base (setupOf u))
-writer-made-exact u r e =
-    let m = freshWriterCall base (setupOf u) in
-    held-exact (freshRows base (setupOf u)) (m .verdict) (r .verdict) (ap (λ (x : FreshWriter). x .verdict) e) (M.fresh-writer-exact base (setupOf u))
+-- `WriterState::fresh`: 1, with the option on or off.
+pub writer-made-exact : (u : Setup) (on : Bool) (r : FreshWriter) → WriterMade u on r → Exact (verdictNumber (r .verdict)) (freshRows base (setupOf u))
+writer-made-exact u on r e =
+    let m = freshPointerCall base on (setupOf u) in
+    held-exact (freshRows base (setupOf u)) (m .verdict) (r .verdict) (ap (λ (x : FreshWriter). x .verdict) e) (fresh-pointer-exact base on (setupOf u))
 
 -- `write`: 2, 3, 4, 5.
 pub wrote-exact : (s : WriterState) (f : List ℤ) (at : ℕ) (buf : List ℕ) (r : Written) (after : List ℕ) → Wrote s f at buf r after
-    → Exact (verdictNumber (r .verdict)) (writeRows base (W.seen s) f at (length buf))
+    → Exact (verdictNumber (r .verdict)) (pointerRows base (W.seen s) f at (length buf))
 wrote-exact s f at buf r after w =
-    let m = writeCall base (W.seen s) f at (length buf) in
-    held-exact (writeRows base (W.seen s) f at (length buf)) (m .verdict) (r .verdict) (ap (λ (x : Written). x .verdict) (w .0))
-    (M.write-exact base (W.seen s) f at (length buf))
+    let m = pointerCall base (W.seen s) f at (length buf) in
+    held-exact (pointerRows base (W.seen s) f at (length buf)) (m .verdict) (r .verdict) (ap (λ (x : Written). x .verdict) (w .0))
+    (pointer-exact base (W.seen s) f at (length buf))
 
 -- `ReaderState::fresh`: 1.
 pub reader-made-exact : (u : Setup) (r : FreshAnswer) → ReaderMade u r → Exact (verdictNumber (r .verdict)) (freshRows base (setupOf u))

@@ -10,7 +10,9 @@
 -- Loss: after a reported loss every slot is answered "unknown" until a load is accepted (demand 2).
 -- Cases: what the theorems ask can be met.
 -- Shift: any list of calls of `write`, refused ones among them, as the model's.
--- Cranes: the cranes' reader, given all their bytes, shows four numbers of the writer's slots and skips the sizes alone (K1).
+-- Pointer: the option off, what any reader makes of the emulated events, and how many there are (K6).
+-- PointerTold: states with the option, and what they told an old display, call after call (K6).
+-- Cranes: the cranes' reader, given all their bytes, shows four numbers of the writer's slots and skips the sizes and the emulated events alone (K1).
 -- Pieces: bytes as the line delivers them are read as `run` reads the whole records of their string, a load between them too (K5).
 -- PiecesCalls: its claims are the contracts, their refusals exact; pieces from a fresh state, and what is asked between them.
 pub mod Contracts
@@ -24,6 +26,8 @@ pub mod Steady
 pub mod Loss
 pub mod Cases
 pub mod Shift
+pub mod Pointer
+pub mod PointerTold
 pub mod Cranes
 pub mod Pieces
 pub mod PiecesCalls

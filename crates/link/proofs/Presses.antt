@@ -7,10 +7,9 @@ use lib.IntN.{ℤ}
 use lib.ListN.{length}
 use Rattle.model.specs.Panel.{base}
 use Rattle.model.specs.Frame.{sized}
-use Rattle.model.specs.States.{writerGood}
-use Rattle.model.specs.Calls.{needOf, roomFor}
+use Rattle.model.specs.Calls.{roomFor}
 use Rattle.model.specs.Refusals.{unless, Exact}
-use Rattle.model.specs.Presses.{pressRows}
+use Rattle.model.specs.Pointing.{pointerGood, pointerNeed}
 use Rattle.model.proofs.Presses.{values-press}
 use Rattle.common.specs.Seen.{verdictNumber}
 use Rattle.panel.specs.Seen.{setupOf, panelSeen}
@@ -18,12 +17,13 @@ use Rattle.writer.specs.declared.WriterState.{WriterState}
 use Rattle.writer.specs.declared.Written.{Written}
 use Rattle.writer.specs.Seen as W
 use Rattle.link.specs.Promises.{Wrote}
+use Rattle.link.specs.Pointer.{pressRows}
 use Rattle.link.proofs.Exact.{wrote-exact}
 
 pub wrote-presses : (s : WriterState) (f : List ℤ) (at : ℕ) (buf : List ℕ) (r : Written) (after : List ℕ) → Wrote s f at buf r after
-    → Exact (verdictNumber (r .verdict)) (pressRows base (W.seen s) f at (length buf))
+    → Exact (verdictNumber (r .verdict)) (pressRows s f at (length buf))
 wrote-presses s f at buf r after w =
     let p = panelSeen (s .setup) in
-    let room = roomFor (needOf p (W.seen s .writer) f) at (length buf) in
-    subst (λ b. Exact (verdictNumber (r .verdict)) (unless 2 (writerGood base (W.seen s)) ∷ unless 3 (sized p f) ∷ unless 4 b ∷ unless 5 room ∷ []))
+    let room = roomFor (pointerNeed base (W.seen s) f) at (length buf) in
+    subst (λ b. Exact (verdictNumber (r .verdict)) (unless 2 (pointerGood base (W.seen s)) ∷ unless 3 (sized p f) ∷ unless 4 b ∷ unless 5 room ∷ []))
     (values-press (setupOf (s .setup)) f refl) (wrote-exact s f at buf r after w)

@@ -1,15 +1,17 @@
 -- Of the code: fresh states are well formed, and whatever calls come, accepted or refused, they stay so and keep their setup.
 -- Cited by Loss and docs/PROMISES.md. Assumes nothing.
 use mathlib.Core.Path.{_≡_, refl, sym, ap, _∙_, subst}
+use mathlib.Core.Bool.{Bool}
 use mathlib.Core.List.{List, [], _∷_}
 use Prim.Native.Nat.{ℕ}
 use lib.Dec.{T}
 use lib.IntN.{ℤ}
 use Rattle.model.specs.Panel.{base}
 use Rattle.model.specs.States as S
-use Rattle.model.specs.States.{writerGood, readerGood, freshReader}
+use Rattle.model.specs.States.{readerGood, freshReader}
 use Rattle.model.specs.Calls as C
-use Rattle.model.specs.Calls.{isAccepted, freshVerdict, freshWriterCall, freshReaderCall}
+use Rattle.model.specs.Calls.{isAccepted, freshVerdict, freshReaderCall}
+use Rattle.model.specs.Pointing.{pointerGood, freshPointerCall}
 use Rattle.model.proofs.Bools.{is-true}
 use Rattle.model.proofs.Calls.{accepted-is, fresh-reader-good, run-steady, step-steady, load-steady}
 use Rattle.model.proofs.Chain.{run-setup, step-setup, load-setup}
@@ -44,15 +46,15 @@ was-accepted v w e h = subst (λ x. T (isAccepted x)) (sym (sym (verdict-seen v)
 -- ---- the writer
 
 -- A fresh writer that is not refused is well formed.
-pub writer-made-good : (u : Setup) (r : FreshWriter) → WriterMade u r → r .verdict ≡ Accepted → GoodWriter (r .state)
-writer-made-good u r e h =
-    let took = was-accepted (freshWriterCall base (setupOf u) .verdict) (r .verdict) (ap (λ (x : FreshWriter). x .verdict) e) h in
-    ap (λ (x : FreshWriter). writerGood base (W.seen (x .state))) e ∙ is-true _ (fresh-steady u took)
+pub writer-made-good : (u : Setup) (on : Bool) (r : FreshWriter) → WriterMade u on r → r .verdict ≡ Accepted → GoodWriter (r .state)
+writer-made-good u on r e h =
+    let took = was-accepted (freshPointerCall base on (setupOf u) .verdict) (r .verdict) (ap (λ (x : FreshWriter). x .verdict) e) h in
+    ap (λ (x : FreshWriter). pointerGood base (W.seen (x .state))) e ∙ is-true _ (fresh-steady u on took)
 
 -- Whatever frame it is handed, a well-formed writer stays so.
 pub written-good : (s : WriterState) (f : List ℤ) (at : ℕ) (buf : List ℕ) (r : Written) (after : List ℕ) → Wrote s f at buf r after
     → GoodWriter s → GoodWriter (r .state)
-written-good s f at buf r after w g = ap (λ (x : Written). writerGood base (W.seen (x .state))) (w .0) ∙ is-true _ (steady s f buf at (holds _ g))
+written-good s f at buf r after w g = ap (λ (x : Written). pointerGood base (W.seen (x .state))) (w .0) ∙ is-true _ (steady s f buf at (holds _ g))
 
 -- ---- the reader
 

@@ -1,7 +1,7 @@
 -- The promises of the calls as claims of what is handed in and what is answered: each is its contract's own equation, which proofs/Contracts
 -- checks. The demands are said of them. Assumes nothing.
 use mathlib.Core.Path.{_≡_}
-use mathlib.Core.Bool.{true}
+use mathlib.Core.Bool.{Bool, true}
 use mathlib.Core.List.{List}
 use Prim.Native.Nat.{ℕ, _+_, _<_}
 use lib.IntN.{ℤ}
@@ -9,8 +9,9 @@ use lib.ListN.{length}
 use Rattle.model.specs.Panel.{base}
 use Rattle.model.specs.Records.{recordBytes}
 use Rattle.model.specs.Reader.{Lost, plus}
-use Rattle.model.specs.States.{writerGood, readerGood}
-use Rattle.model.specs.Calls.{freshWriterCall, freshReaderCall, writeCall, writeBuffer, runCall, stepCall, loadCall, askCall}
+use Rattle.model.specs.States.{readerGood}
+use Rattle.model.specs.Calls.{freshReaderCall, runCall, stepCall, loadCall, askCall}
+use Rattle.model.specs.Pointing.{pointerGood, freshPointerCall, pointerCall, pointerBuffer}
 use Rattle.panel.specs.declared.Setup.{Setup}
 use Rattle.panel.specs.Seen.{setupOf}
 use Rattle.records.specs.declared.Event.{Event}
@@ -32,13 +33,13 @@ use Rattle.reader.specs.Seen.{loadedFrom, askedFrom}
 
 -- ---- the writer's
 
--- What `WriterState::fresh` promises of its answer, for the setup of its four numbers.
-abbrev pub WriterMade : Setup → FreshWriter → Type 0
-WriterMade u r = r ≡ W.freshFrom (freshWriterCall base (setupOf u))
+-- What `WriterState::fresh` promises of its answer, for a setup and the option.
+abbrev pub WriterMade : Setup → Bool → FreshWriter → Type 0
+WriterMade u on r = r ≡ W.freshFrom (freshPointerCall base on (setupOf u))
 
 -- What `write` promises of its answer and of the buffer afterwards.
 abbrev pub Wrote : WriterState → List ℤ → ℕ → List ℕ → Written → List ℕ → Type 0
-Wrote s f at buf r after = (r ≡ W.writtenFrom (writeCall base (W.seen s) f at (length buf))) × (after ≡ writeBuffer base (W.seen s) f at buf)
+Wrote s f at buf r after = (r ≡ W.writtenFrom (pointerCall base (W.seen s) f at (length buf))) × (after ≡ pointerBuffer base (W.seen s) f at buf)
 
 -- ---- the reader's
 
@@ -64,9 +65,9 @@ Asked s k r = r ≡ askedFrom (askCall base (R.seen s) k)
 
 -- ---- for the demands
 
--- A writer's state is well formed.
+-- A writer's state is well formed, with the option on or off.
 abbrev pub GoodWriter : WriterState → Type 0
-GoodWriter s = writerGood base (W.seen s) ≡ true
+GoodWriter s = pointerGood base (W.seen s) ≡ true
 
 -- A reader's state is well formed.
 abbrev pub GoodReader : ReaderState → Type 0

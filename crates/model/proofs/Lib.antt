@@ -99,8 +99,10 @@
 --   Off: with the option off every call answers what it answers without it.
 --   PointerCarried: records can carry the events.
 --   PointerBytes: demands 2 and 3 of the calls, in bytes.
+--   PointerNone: nothing is written just where there is no contact event.
 --   PointerShift: any list of calls, refused ones among them.
 --   PointerPlain: seen without the option, they are the calls of a shift without it.
+--   PointerNarrow: K1 with it: a shorter reader shows the first numbers of the writer's slots, and skips the emulated events too.
 --   Births: the followed contact began in the earliest call.
 pub mod Bench
 pub mod AtReport
@@ -187,7 +189,9 @@ pub mod PointerCalls
 pub mod Off
 pub mod PointerCarried
 pub mod PointerBytes
+pub mod PointerNone
 pub mod PointerShift
 pub mod PointerPlain
+pub mod PointerNarrow
 pub mod Births
 pub mod Instances

@@ -54,7 +54,7 @@ take-replicate zero n x l = refl
 take-replicate (suc m) zero x l = absurd (omega arith)
 take-replicate (suc m) (suc n) x l = ap (λ t. x ∷ t) (take-replicate m n x (omega arith))
 
-fresh-cut : (k m : ℕ) (p : Panel) → m ≤ p .records → freshReader (cutPanel (suc k) m p) ≡ cutReader (suc k) m (freshReader p)
+pub fresh-cut : (k m : ℕ) (p : Panel) → m ≤ p .records → freshReader (cutPanel (suc k) m p) ≡ cutReader (suc k) m (freshReader p)
 fresh-cut k m p h =
     ap (λ t. settledAt t 0 following)
     (sym (ap (map (take (suc k))) (take-replicate m (p .records) (unusedSlot (p .fields)) h)
@@ -63,7 +63,7 @@ fresh-cut k m p h =
 
 module _ (l s : Layout) (u v : Setup) (h : Shorter l s u v) where
   -- The short panel has the first fields of the long one's.
-  panel-cut : panelOf s v ≡ cutPanel (fieldCount s) (s .records) (panelOf l u)
+  pub panel-cut : panelOf s v ≡ cutPanel (fieldCount s) (s .records) (panelOf l u)
   panel-cut =
       ap₂ {C = Panel} (λ n fs. record { slots = n; records = s .records; fields = idField ∷ fs }) (h .slots)
       (ap₂ axisFields (h .axes) (h .largest) ∙ fields-cut (length (s .axes)) (l .axes) (u .largest))
@@ -102,7 +102,7 @@ module _ (l s : Layout) (v : Setup) (w : WriterState) (g : T (goodLayout l)) (go
   steady : SteadyReader (panelOf l (w .setup)) (pupil w .reader)
   steady = reader-state l (pupil w) (pupil-good l w good) .reader
 
-  short-good : T (readerGood s (shortPupil s v w))
+  pub short-good : T (readerGood s (shortPupil s v w))
   unfolding panel-cut steady
   short-good =
       let held : w .setup .slots ≤ s .records = omega (arith, h .held, h .slots) in

@@ -51,7 +51,7 @@ not-false : (b : Bool) → not b ≡ false → b ≡ true
 not-false true q = refl
 not-false false q = sym q
 
-listed : (p : Panel) (e : Event) → skippedBy p e ≡ false → Listed p e
+pub listed : (p : Panel) (e : Event) → skippedBy p e ≡ false → Listed p e
 listed p e h =
     let both = not-false (knownType e && knownCode p e) h in
     record { type = and-left (knownType e) _ both; code = and-right (knownType e) _ both }
@@ -103,7 +103,7 @@ module _ (k m : ℕ) (p : Panel) (w : Tellable p) where
   abbrev short : Panel
   short = cutPanel k m p
 
-  code-cut : (e : Event) → Listed p e → codeUnknown short e ≡ hasCode (past k p) e
+  pub code-cut : (e : Event) → Listed p e → codeUnknown short e ≡ hasCode (past k p) e
   code-cut e l = ap (λ b. b && not (knownCode short e)) (l .type) ∙ known-cut k m p w e l
 
   skipped-cut : (e : Event) → Listed p e → skippedBy short e ≡ hasCode (past k p) e

@@ -35,7 +35,7 @@ use Rattle.model.specs.PointerShift.{pointerJudged, pointerWrote, pointe
 -- ---- one call
 
 -- A call writes the events of its frame and answers the writer after it, or none and the writer as it was.
-by-call : (l : Layout) (s : PointerState) (k : FrameCall) (P : List Event → List Event → PointerState → Type 0)
+pub by-call : (l : Layout) (s : PointerState) (k : FrameCall) (P : List Event → List Event → PointerState → Type 0)
     → (T (valuesGood (panelOf l (s .base .setup)) (k .frame)) → P (pointerEvents l s (k .frame)) (frameEvents (panelOf l (s .base .setup)) (s .base .writer) (k .frame)) (pointerAfter l s (k .frame)))
     → P [] [] s → P (pointerSent l s k) (contactsSent l s k) (pointerWrote l s k)
 unfolding pointerCall
@@ -49,7 +49,7 @@ by-call l s k P some none =
       | false ↦ λ h. none
     ]) (λ t. t)
 
-setup-kept : (l : Layout) (s : PointerState) (k : FrameCall) → pointerWrote l s k .base .setup ≡ s .base .setup
+pub setup-kept : (l : Layout) (s : PointerState) (k : FrameCall) → pointerWrote l s k .base .setup ≡ s .base .setup
 setup-kept l s k = by-call l s k (λ es cs t. t .base .setup ≡ s .base .setup) (λ v. refl) refl
 
 module _ (l : Layout) (s : PointerState) (k : FrameCall) (g : T (goodLayout l)) (good : T (pointerGood l s)) where
@@ -118,7 +118,7 @@ module _ (l : Layout) (g : T (goodLayout l)) where
       ∙ sym (read-append p r (contactsSent l s k) (contactsSentAll l z ks))
 
   -- Their bytes are whole records.
-  calls-whole : (s : PointerState) (ks : List FrameCall) → length (pointerWrittenAll l s ks) % 8 ≡ 0
+  pub calls-whole : (s : PointerState) (ks : List FrameCall) → length (pointerWrittenAll l s ks) % 8 ≡ 0
   calls-whole s [] = omega arith
   calls-whole s (k ∷ ks) =
       let bs = pointerWritten l s (k .frame) (k .at) (k .buffer) in

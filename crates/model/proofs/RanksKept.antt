@@ -67,7 +67,7 @@ tail [] = []
 tail (v ∷ l) = l
 
 -- A beginning contact's id is not the slot's old one.
-new-id : (taken : List ℤ) (c : ℕ) (v : ℤ) (l : List ℤ) → c < idCount → length taken < idCount → ((w : ℤ) → T (unheld w taken) → T (unheld w (v ∷ l)))
+pub new-id : (taken : List ℤ) (c : ℕ) (v : ℤ) (l : List ℤ) → c < idCount → length taken < idCount → ((w : ℤ) → T (unheld w taken) → T (unheld w (v ∷ l)))
     → pos (freeId taken c) ≡ v → ⊥
 new-id taken c v l q z H e =
     T-not (eqZ (pos (freeId taken c)) v)

@@ -69,7 +69,7 @@ asked-listed p e (sendSlot k) t = t
 asked-listed p e (sendNumber i v) t = t
 asked-listed p e sendReport t = t
 
-all-listed : (p : Panel) → Tellable p → (xs : List Sent) → AllGood (p .fields) (p .slots) xs → AllListed p (map (eventOf (fieldCodes (p .fields))) xs)
+pub all-listed : (p : Panel) → Tellable p → (xs : List Sent) → AllGood (p .fields) (p .slots) xs → AllListed p (map (eventOf (fieldCodes (p .fields))) xs)
 all-listed p w [] g = tt
 all-listed p w (x ∷ xs) g =
     let e = eventOf (fieldCodes (p .fields)) x in

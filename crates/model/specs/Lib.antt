@@ -30,4 +30,5 @@ pub mod Pointer
 pub mod Pointing
 pub mod PointerSheet
 pub mod PointerShift
+pub mod PointerNarrow
 pub mod Unique

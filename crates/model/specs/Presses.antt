@@ -1,16 +1,12 @@
 -- A frame's values by document 01's rule and K8's beside it, told by the frame's own numbers: the theorem on refusal 4 speaks of them. Assumes nothing.
 use mathlib.Core.Bool.{Bool, true, not, _&&_, _||_}
 use mathlib.Core.List.{List, [], _∷_}
-use Prim.Native.Nat.{ℕ}
 use lib.IntN.{ℤ, pos}
 use lib.ListN.{getD}
 use Rattle.model.specs.Numbers.{eqZ}
-use Rattle.model.specs.Panel.{Layout, Field, Panel, panelOf}
+use Rattle.model.specs.Panel.{Field}
 use Rattle.model.specs.Table.{numbersOf, goodSlot}
-use Rattle.model.specs.Frame.{kindOf, rowsOf, axesOf, sized}
-use Rattle.model.specs.States.{WriterState, writerGood}
-use Rattle.model.specs.Calls.{needOf, roomFor}
-use Rattle.model.specs.Refusals.{Row, unless}
+use Rattle.model.specs.Frame.{kindOf}
 
 -- Document 01: kind 0, or kind 1 or 2 with every number in its range, 0 included.
 abbrev pub inRanges : List Field → List ℤ → Bool
@@ -24,9 +20,3 @@ presses g = eqZ (kindOf g) (pos 0) || not (eqZ (getD g 3 (pos 0)) (pos 0))
 abbrev pub allPress : List Field → List (List ℤ) → Bool
 allPress axes [] = true
 allPress axes (g ∷ fr) = (inRanges axes g && presses g) && allPress axes fr
-
--- The rows of a frame's refusals with VALUE said so.
-abbrev pub pressRows : Layout → WriterState → List ℤ → ℕ → ℕ → List Row
-pressRows l s f at size =
-    let p = panelOf l (s .setup) in
-    unless 2 (writerGood l s) ∷ unless 3 (sized p f) ∷ unless 4 (allPress (axesOf (p .fields)) (rowsOf p f)) ∷ unless 5 (roomFor (needOf p (s .writer) f) at size) ∷ []

@@ -25,7 +25,7 @@ setup-back u = refl
 
 -- ---- held and seen again
 
-own-number : (top : ℕ) (v : ℤ) → T (betweenZ (pos 0) (pos top) v) → pos (natural v) ≡ v
+pub own-number : (top : ℕ) (v : ℤ) → T (betweenZ (pos 0) (pos top) v) → pos (natural v) ≡ v
 own-number top (pos n) t = refl
 own-number top (negsuc n) t = absurd t
 

@@ -30,6 +30,25 @@ pub const TRACKING_ID: u16 = 0x39;
 
 pub const PRESSURE: u16 = 0x3a;
 
+// For an old display, document 02's K6: buttons are of type KEY.
+pub const KEY: u16 = 1;
+
+pub const X: u16 = 0;
+
+pub const Y: u16 = 1;
+
+pub const TOUCH: u16 = 0x14a;
+
+pub const FINGER: u16 = 0x145;
+
+pub const DOUBLETAP: u16 = 0x14d;
+
+pub const TRIPLETAP: u16 = 0x14e;
+
+pub const QUADTAP: u16 = 0x14f;
+
+pub const QUINTTAP: u16 = 0x148;
+
 // The value is held as its 32 bits: a reader tests ranges on them, and -1 is the largest number.
 pub struct Event {
     pub kind: u16,

@@ -1,2 +1,3 @@
 -- What is sent, as bytes.
 pub mod Sent
+pub mod Told

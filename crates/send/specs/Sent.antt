@@ -1,17 +1,19 @@
 -- What the writer puts into the buffer, slot by slot. Cited by the contracts here and by the writer. Assumes nothing.
+use mathlib.Core.Path.{_≡_}
 use mathlib.Core.Bool.{Bool, true, false}
 use mathlib.Core.List.{List, [], _∷_, _++_, map}
-use Prim.Native.Nat.{ℕ}
+use Prim.Native.Nat.{ℕ, _+_}
 use lib.Dec.{eqb}
-use lib.ListN.{getD}
+use lib.ListN.{length, getD}
 use Rattle.model.specs.Panel.{fieldCodes, records}
-use Rattle.model.specs.Records.{bitsOf, recordBytes, bytesOf}
+use Rattle.model.specs.Records.{bitsOf, recordBytes, bytesOf, lay}
 use Rattle.model.specs.Sending as M
 use Rattle.model.specs.Sending.{sendSlot, changes, eventOf}
 use Rattle.model.specs.Order.{ofMask}
 use Rattle.panel.specs.declared.Slot.{Slot}
 use Rattle.panel.specs.Seen.{slotOf, fieldsOf, blank}
 use Rattle.send.specs.declared.Change.{Change}
+use Rattle.send.specs.declared.Reached.{Reached}
 
 -- The codes of a slot's fields, which are those of every setup.
 abbrev pub codes : List ℕ
@@ -26,13 +28,17 @@ abbrev pub noneIf : Bool → List ℕ → List ℕ
 noneIf true l = []
 noneIf false l = l
 
--- A number's record, unless the number is the same; an id is given by its bits.
+-- A number's record by its type, unless the number is the same.
+abbrev pub toldBytes : ℕ → ℕ → ℕ → ℕ → List ℕ
+toldBytes type code old new = noneIf (eqb old new) (recordBytes type code new)
+
+-- A slot's number; an id is given by its bits.
 abbrev pub numberBytes : ℕ → ℕ → ℕ → List ℕ
-numberBytes code old new = noneIf (eqb old new) (recordBytes 3 code new)
+numberBytes code old new = toldBytes 3 code old new
 
 -- The record of a change.
 abbrev pub changeBytes : Change → List ℕ
-changeBytes c = numberBytes (c .code) (c .old) (c .new)
+changeBytes c = toldBytes (c .kind) (c .code) (c .old) (c .new)
 
 -- The records of a slot's changed id, x, y and pressure, and of its changed sizes.
 abbrev pub contactBytes : Slot → Slot → List ℕ
@@ -50,3 +56,9 @@ openedAt old new j = sendSlot j ∷ changes 0 (slotOf (getD old j blank)) (slotO
 -- The current slot's changes, and then those of the slots that a number names.
 abbrev pub sentBy : List Slot → List Slot → ℕ → ℕ → List M.Sent
 sentBy old new m c = changes 0 (slotOf (getD old c blank)) (slotOf (getD new c blank)) ++ ofMask records m (openedAt old new)
+
+-- What r says of a frame's contact events, laid over a buffer from a position on: where they end, and the slot last written.
+pub record Reaches (at : ℕ) (old new : List Slot) (m c : ℕ) (before : List ℕ) (r : Reached) (after : List ℕ) : Type 0 where
+  pub ends : r .end ≡ at + length (bytesSent (sentBy old new m c))
+  pub last : r .last .0 ≡ M.lastOpened c (sentBy old new m c)
+  pub bytes : after ≡ lay at (bytesSent (sentBy old new m c)) before

@@ -10,7 +10,9 @@ ghost use Rattle.io.specs.Counts.{Counts};
 use libc::STDERR_FILENO;
 use libc::STDIN_FILENO;
 use libc::STDOUT_FILENO;
+pub use status::Begun;
 pub use status::begin;
+pub use status::begin_with;
 pub use status::finish;
 
 // How many bytes a read put at the start of the buffer, and why it stopped if there are no more.

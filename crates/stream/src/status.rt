@@ -1,6 +1,7 @@
-// How a program begins and ends: its one argument, and the status that it tells. The language has no exit status, so a digit goes to the descriptor that the argument names.
+// How a program begins and ends: its arguments, and the status that it tells. The language has no exit status, so a digit goes to the descriptor that the first argument names.
 use crate::FAILED;
 use crate::Out;
+ghost use Prim.Native.Nat.{_≤_};
 
 // The argument is these bytes and one digit from 3 to 9: a standard stream cannot be named.
 const BEFORE: usize = 12;
@@ -9,14 +10,13 @@ const LOWEST: u8 = b'3';
 
 const HIGHEST: u8 = b'9';
 
-fn is_named(text: &[u8]) -> bool {
-    let name = b"--status-fd=";
+fn begins(text: &[u8], word: &[u8]) -> bool {
     let mut i: usize = 0;
-    while i < BEFORE {
+    while i < word.len() {
         if i >= text.len() {
             return false;
         }
-        if text[i] != name[i] {
+        if text[i] != word[i] {
             return false;
         }
         i += 1;
@@ -29,7 +29,7 @@ fn descriptor_of(text: &[u8]) -> i32 {
     if text.len() != BEFORE + 1 {
         return -1;
     }
-    if !is_named(text) {
+    if !begins(text, b"--status-fd=") {
         return -1;
     }
     let digit = text[BEFORE];
@@ -49,44 +49,85 @@ fn descriptor(i: usize) -> i32 {
     descriptor_of(&text[..n])
 }
 
-// The first argument that is not the descriptor's, or 0 where there is none.
-fn stray() -> usize {
-    let count = os::arg_count();
-    if count < 2 {
-        return 0;
-    }
+// Where the arguments begin that are the program's own: the descriptor stands before them.
+fn own() -> usize
+    ensures { λ r. ⌜ r ≤ 2 ⌝ }
+{
     if descriptor(1) < 0 {
         return 1;
     }
-    if count > 2 {
-        return 2;
-    }
-    0
+    2
 }
 
-fn refuse_argument(out: Out, name: &[u8], i: usize) -> Out {
+// Whether argument i is the word. One that is missing reads as an empty one, so an empty word would be there always.
+fn is_given(i: usize, word: &[u8]) -> bool {
     let mut text = io::buffer();
     let n = os::arg(i, &mut text);
-    let a = crate::warn(out.marked(FAILED), name);
-    let b = crate::warn(a, b": no argument is taken, and '");
+    if n != word.len() {
+        return false;
+    }
+    begins(&text[..n], word)
+}
+
+// What the program takes: the word, or nothing where that is empty.
+fn warn_taken(out: Out, name: &[u8], word: &[u8]) -> Out {
+    let a = crate::warn(out, name);
+    let b = crate::warn(a, b": no argument");
+    if word.len() == 0 {
+        return b;
+    }
+    let c = crate::warn(b, b" but ");
+    crate::warn(c, word)
+}
+
+fn refuse_argument(out: Out, name: &[u8], word: &[u8], i: usize) -> Out {
+    let mut text = io::buffer();
+    let n = os::arg(i, &mut text);
+    let a = warn_taken(out.marked(FAILED), name, word);
+    let b = crate::warn(a, b" is taken, and '");
     let c = crate::warn(b, &text[..n]);
     let d = crate::warn(c, b"' is one; a file is given as ");
     let e = crate::warn(d, name);
     crate::warn(e, b" < FILE\n")
 }
 
-// A program's output before it says anything. Where its status is FAILED it was given an argument that it does not take, and is to do nothing but end.
-pub fn begin(name: &[u8]) -> Out {
+// The output where argument i, if it is there, is one too many.
+fn refusing(name: &[u8], word: &[u8], i: usize) -> Out {
     let out = Out {
         held: 0,
         broken: false,
         status: crate::ACCEPTED,
     };
-    let i = stray();
-    if i == 0 {
+    if os::arg_count() <= i {
         return out;
     }
-    refuse_argument(out, name, i)
+    refuse_argument(out, name, word, i)
+}
+
+// A program's output before it says anything. Where its status is FAILED it was given an argument that it does not take, and is to do nothing but end.
+pub fn begin(name: &[u8]) -> Out {
+    refusing(name, b"", own())
+}
+
+// The same with whether the word was given.
+pub struct Begun {
+    pub out: Out,
+    pub given: bool,
+}
+
+// For a program that takes one word, which stands behind the descriptor's.
+pub fn begin_with(name: &[u8], word: &[u8]) -> Begun {
+    let i = own();
+    if is_given(i, word) {
+        return Begun {
+            out: refusing(name, word, i + 1),
+            given: true,
+        };
+    }
+    Begun {
+        out: refusing(name, word, i),
+        given: false,
+    }
 }
 
 fn tell(status: u8) {

@@ -1,7 +1,7 @@
 // Writes frames as events: standard input is n, largest x, y, pressure, major and minor and then frames of 6n numbers, all 32-bit little-endian; standard output is that header and every record written.
-// A refusal is a line on standard error, and the next frame goes on from the state as it was. Input that was lost is passed on as SYN_DROPPED.
+// A refusal is a line on standard error, and the next frame goes on from the state as it was. Input that was lost is passed on as SYN_DROPPED. The argument --pointer turns pointer emulation on.
 ghost use mathlib.Core.Path.{_≡_};
-ghost use Prim.Native.Nat.{_≤_};
+ghost use Prim.Native.Nat.{_+_, _≤_};
 ghost use lib.ListN.{length, take as first};
 ghost use Rattle.model.specs.Panel.{base};
 ghost use Rattle.model.specs.Calls.{mostEvents};
@@ -10,6 +10,7 @@ use header::Header;
 use panel::MOST_EVENTS;
 use panel::PER_SLOT;
 use panel::RECORDS;
+use panel::Setup;
 use stream::Out;
 use writer::WriterState;
 
@@ -20,8 +21,11 @@ const ROW: usize = NUMBER * PER_SLOT;
 
 const NUMBERS: usize = PER_SLOT * RECORDS;
 
+// The most events of pointer emulation on top of a frame's own: the touch or the old tool, the new tool, X and Y.
+const EMULATED: usize = 4;
+
 // The most bytes that a frame's events take.
-const EVENTS: usize = records::LENGTH * MOST_EVENTS;
+const EVENTS: usize = records::LENGTH * (MOST_EVENTS + EMULATED);
 
 // A frame's numbers from its bytes; how many there are.
 fn numbers_of(bytes: &[u8], frame: &mut [i32]) -> usize
@@ -71,7 +75,7 @@ fn roomy(page: &[u8], out: Out) -> Out {
 
 // The output with so many records more, which the writer put on the page.
 fn longer(page: &[u8], out: Out, count: usize) -> Out
-    requires { ⌜ count ≤ mostEvents base ⌝ }
+    requires { ⌜ count ≤ mostEvents base + 4 ⌝ }
 {
     let held = stream::within(out.held, page);
     Out {
@@ -83,7 +87,7 @@ fn longer(page: &[u8], out: Out, count: usize) -> Out
 
 // The output after a frame: longer by its records, or its refusal is said.
 fn answered(page: &[u8], out: Out, frame: u64, verdict: Verdict, count: usize) -> Out
-    requires { ⌜ count ≤ mostEvents base ⌝ }
+    requires { ⌜ count ≤ mostEvents base + 4 ⌝ }
 {
     if verdict.number() != 0 {
         return warn_frame(out, frame, verdict);
@@ -239,12 +243,22 @@ fn say_header(page: &mut [u8], out: Out, bytes: &[u8; header::BYTES]) -> Out {
     stream::say(page, out, bytes)
 }
 
-fn after_setup(page: &mut [u8], out: Out, h: Header) -> Out {
+fn setup_of(h: Header) -> Setup {
+    Setup {
+        n: h.n as usize,
+        x: h.x,
+        y: h.y,
+        pressure: h.pressure,
+        major: h.major,
+        minor: h.minor,
+    }
+}
+
+fn after_setup(page: &mut [u8], out: Out, h: Header, pointer: bool) -> Out {
     if h.count < header::BYTES {
         return header::warn_refused(out, b"write_frames", h);
     }
-    let n = h.n as usize;
-    let a = WriterState::fresh(n, h.x, h.y, h.pressure, h.major, h.minor);
+    let a = WriterState::fresh(setup_of(h), pointer);
     let verdict = a.verdict;
     if verdict.number() != 0 {
         return header::warn_refused(out, b"write_frames", h);
@@ -257,25 +271,26 @@ fn after_setup(page: &mut [u8], out: Out, h: Header) -> Out {
         frame: 1,
     };
     let mut buf = io::large_buffer();
-    read_all(page, &mut buf, s, ROW * n)
+    read_all(page, &mut buf, s, ROW * h.n as usize)
 }
 
-fn answer(page: &mut [u8], out: Out) -> Out {
+fn answer(page: &mut [u8], out: Out, pointer: bool) -> Out {
     let h = header::read();
     if h.failed {
         let a = stream::read_failed(out, b"write_frames");
-        return after_setup(page, a, h);
+        return after_setup(page, a, h, pointer);
     }
-    after_setup(page, out, h)
+    after_setup(page, out, h, pointer)
 }
 
 fn main() {
     let mut page = io::large_buffer();
-    let begun = stream::begin(b"write_frames");
-    if begun.status != stream::ACCEPTED {
-        stream::finish(&page, begun, b"write_frames");
+    let begun = stream::begin_with(b"write_frames", b"--pointer");
+    let first = begun.out;
+    if first.status != stream::ACCEPTED {
+        stream::finish(&page, first, b"write_frames");
         return;
     }
-    let out = answer(&mut page, begun);
+    let out = answer(&mut page, first, begun.given);
     stream::finish(&page, out, b"write_frames");
 }

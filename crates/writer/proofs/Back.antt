@@ -5,4 +5,6 @@ use Rattle.writer.specs.declared.WriterState.{WriterState}
 use Rattle.writer.specs.Seen.{seen, held}
 
 pub state-back : (s : WriterState) → held (seen s) ≡ s
-state-back s = ap (λ t. record { table = t; setup = s .setup; current = s .current; counter = s .counter }) (table-back (s .table))
+state-back s =
+    ap (λ t. record { table = t; ranks = s .ranks; setup = s .setup; current = s .current; counter = s .counter; told = s .told; pointer = s .pointer })
+    (table-back (s .table))

@@ -1,11 +1,11 @@
-// The type B writer: a fresh state, and a frame's events into the caller's buffer with the state after it.
+// The type B writer: a fresh state, and a frame's events into the caller's buffer with the state after it; as an option also what tells an old display (document 02's K6).
 ghost use mathlib.Core.Path.{_≡_};
 ghost use lib.ListN.{length};
 ghost use Rattle.model.specs.Panel.{base};
-ghost use Rattle.model.specs.States.{writerGood};
-ghost use Rattle.model.specs.Calls.{freshWriterCall, writeCall, writeBuffer};
+ghost use Rattle.model.specs.Calls.{roomFor};
+ghost use Rattle.model.specs.Pointing.{pointerGood, freshPointerCall, pointerCall, pointerBuffer};
 ghost use Rattle.panel.specs.Seen.{setupOf};
-ghost use Rattle.writer.specs.Seen.{seen, freshFrom, writtenFrom, notWrittenBy, writtenBy};
+ghost use Rattle.writer.specs.Seen.{seen, freshFrom, writtenFrom, notWrittenBy, unmovedAll, madeOf, withLast, takenBy};
 use common::SlotNumber;
 use common::TrackingId;
 use common::Verdict;
@@ -13,13 +13,20 @@ use panel::PER_SLOT;
 use panel::RECORDS;
 use panel::Setup;
 use panel::Slot;
+use pointer::Moved;
+use pointer::Pointer;
 
 // In these structs the table comes first, and then the widest numbers: a table that stands beside a struct's padding is copied once more by the compiler at each call.
 pub struct WriterState {
     pub table: [Slot; RECORDS],
+    // By beginning, from 0; 0 for an unused record, and always with the option off.
+    pub ranks: [u8; RECORDS],
     pub setup: Setup,
     pub current: SlotNumber,
     pub counter: u32,
+    // What an old display was told last; zeros with the option off.
+    pub told: Pointer,
+    pub pointer: bool,
 }
 
 pub struct FreshWriter {
@@ -35,51 +42,100 @@ pub struct Written {
     pub verdict: Verdict,
 }
 
-impl WriterState {
-    // A fresh writer for a panel of n slots and these largest values; refusal 1, and zeros, where one is out of its range.
-    pub fn fresh(n: usize, x: u32, y: u32, pressure: u32, major: u32, minor: u32) -> FreshWriter
-        ensures { λ r. ⌜ r ≡ freshFrom (freshWriterCall base (setupOf (record { n = n; x = x; y = y; pressure = pressure; major = major; minor = minor }))) ⌝ }
+fn untold() -> Moved
+    ensures { λ r. ⌜ r ≡ unmovedAll ⌝ }
+{
+    Moved {
+        ranks: [0; RECORDS],
+        told: Pointer {
+            x: 0,
+            y: 0,
+            tool: 0,
+            touch: 0,
+        },
+    }
+}
+
+// What a writer is made of besides its table, its ranks and what it told.
+struct Own {
+    setup: Setup,
+    current: SlotNumber,
+    counter: u32,
+    pointer: bool,
+}
+
+impl Own {
+    fn with(self, last: SlotNumber) -> Own
+        ensures { λ r. ⌜ r ≡ withLast self last ⌝ }
     {
-        let setup = Setup {
-            n,
-            x,
-            y,
-            pressure,
-            major,
-            minor,
-        };
+        let setup = self.setup;
+        Own {
+            setup,
+            current: last,
+            counter: self.counter,
+            pointer: self.pointer,
+        }
+    }
+}
+
+fn state_of(table: [Slot; RECORDS], moved: Moved, own: Own) -> WriterState
+    ensures { λ r. ⌜ r ≡ madeOf table moved own ⌝ }
+{
+    let ranks = moved.ranks;
+    let told = moved.told;
+    let setup = own.setup;
+    let current = own.current;
+    WriterState {
+        table,
+        ranks,
+        setup,
+        current,
+        counter: own.counter,
+        told,
+        pointer: own.pointer,
+    }
+}
+
+impl WriterState {
+    // A fresh writer for a setup, with pointer emulation or without; refusal 1, and zeros, where a number is out of its range.
+    pub fn fresh(setup: Setup, pointer: bool) -> FreshWriter
+        ensures { λ r. ⌜ r ≡ freshFrom (freshPointerCall base pointer (setupOf setup)) ⌝ }
+    {
+        let none = untold();
         if !panel::setup_ok(setup) {
-            return FreshWriter {
-                state: WriterState {
-                    table: panel::zero_table(),
-                    setup: Setup {
-                        n: 0,
-                        x: 0,
-                        y: 0,
-                        pressure: 0,
-                        major: 0,
-                        minor: 0,
-                    },
-                    current: SlotNumber(0),
-                    counter: 0,
+            let nothing = Own {
+                setup: Setup {
+                    n: 0,
+                    x: 0,
+                    y: 0,
+                    pressure: 0,
+                    major: 0,
+                    minor: 0,
                 },
+                current: SlotNumber(0),
+                counter: 0,
+                pointer: false,
+            };
+            return FreshWriter {
+                state: state_of(panel::zero_table(), none, nothing),
                 verdict: Verdict::Setup,
             };
         }
+        let own = Own {
+            setup,
+            current: SlotNumber(0),
+            counter: 0,
+            pointer,
+        };
         FreshWriter {
-            state: WriterState {
-                table: panel::unused_table(),
-                setup,
-                current: SlotNumber(0),
-                counter: 0,
-            },
+            state: state_of(panel::unused_table(), none, own),
             verdict: Verdict::Accepted,
         }
     }
 }
 
 fn state_ok(s: WriterState) -> bool
-    ensures { λ r. ⌜ r ≡ writerGood base (seen s) ⌝ }
+    ensures { λ r. ⌜ r ≡ pointerGood base (seen s) ⌝ }
 {
     let setup = s.setup;
     let table = s.table;
@@ -93,7 +149,12 @@ fn state_ok(s: WriterState) -> bool
     if setup.n <= current.0 {
         return false;
     }
-    s.counter < TrackingId::COUNT
+    if TrackingId::COUNT <= s.counter {
+        return false;
+    }
+    let ranks = s.ranks;
+    let told = s.told;
+    pointer::pointing_ok(s.pointer, setup, table, ranks, told)
 }
 
 fn refused(verdict: Verdict, state: WriterState, need: usize) -> Written
@@ -108,23 +169,11 @@ fn refused(verdict: Verdict, state: WriterState, need: usize) -> Written
     }
 }
 
-fn taken(
-    table: [Slot; RECORDS],
-    setup: Setup,
-    current: SlotNumber,
-    counter: u32,
-    count: usize,
-    changed: u32,
-) -> Written
-    ensures { λ r. ⌜ r ≡ writtenBy (record { table = table; setup = setup; current = current; counter = counter }) count changed ⌝ }
+fn taken(table: [Slot; RECORDS], moved: Moved, own: Own, count: usize, changed: u32) -> Written
+    ensures { λ r. ⌜ r ≡ takenBy table moved own count changed ⌝ }
 {
     Written {
-        state: WriterState {
-            table,
-            setup,
-            current,
-            counter,
-        },
+        state: state_of(table, moved, own),
         count,
         need: 0,
         changed,
@@ -132,9 +181,18 @@ fn taken(
     }
 }
 
+fn has_room(size: usize, at: usize, need: usize) -> bool
+    ensures { λ r. ⌜ r ≡ roomFor need at size ⌝ }
+{
+    if size < at {
+        return false;
+    }
+    need <= size - at
+}
+
 // Writes a frame's events into `buf` from the position `at` on; refusals 2 to 5 in rising number.
 pub fn write(state: WriterState, frame: &[i32], buf: &mut [u8], at: usize) -> Written
-    ensures { λ r. ⌜ (r ≡ writtenFrom (writeCall base (seen state) (now (frame .entry)) at (length (now (buf .entry))))) × (now (buf .exit) ≡ writeBuffer base (seen state) (now (frame .entry)) at (now (buf .entry))) ⌝ }
+    ensures { λ r. ⌜ (r ≡ writtenFrom (pointerCall base (seen state) (now (frame .entry)) at (length (now (buf .entry))))) × (now (buf .exit) ≡ pointerBuffer base (seen state) (now (frame .entry)) at (now (buf .entry))) ⌝ }
 {
     let setup = state.setup;
     if !state_ok(state) {
@@ -147,22 +205,32 @@ pub fn write(state: WriterState, frame: &[i32], buf: &mut [u8], at: usize) -> Wr
         return refused(Verdict::Value, state, 0);
     }
     let old = state.table;
-    let current = state.current;
     let p = plan::plan_frame(setup.n, old, state.counter, frame);
     let new = p.table;
     let c = p.changes;
+    let ranks = state.ranks;
+    let told = state.told;
+    let moved = pointer::move_on(state.pointer, setup.n, old, new, ranks, told);
+    let tell = moved.told;
+    let current = state.current;
+    let own = Own {
+        setup,
+        current,
+        counter: p.counter,
+        pointer: state.pointer,
+    };
     let others = tally::without_current(c.slots, current);
-    let events = tally::event_count(c.numbers, others);
+    let events = tally::event_count(c.numbers, others) + pointer::emulated(told, tell);
     let need = 8 * events;
-    if buf.len() < at {
-        return refused(Verdict::NoRoom, state, need);
-    }
-    if buf.len() - at < need {
+    if !has_room(buf.len(), at, need) {
         return refused(Verdict::NoRoom, state, need);
     }
     if events == 0 {
-        return taken(new, setup, current, p.counter, events, c.slots);
+        return taken(new, moved, own, events, c.slots);
     }
-    let last = send::send_frame(buf, at, old, new, others, current);
-    taken(new, setup, last, p.counter, events, c.slots)
+    let from = send::send_touch(buf, at, told, tell);
+    let sent = send::send_slots(buf, from, old, new, others, current);
+    send::send_end(buf, sent.end, told, tell);
+    let last = sent.last;
+    taken(new, moved, own.with(last), events, c.slots)
 }

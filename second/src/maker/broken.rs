@@ -52,6 +52,11 @@ impl Maker {
         }
     }
 
+    /// Whether a table is to be empty behind a broken setup: mostly where a largest value is 0, since nearly every table has a number above it.
+    fn clears(&mut self, layout: Layout, setup: &Setup) -> bool {
+        self.random.once_in(4) || setup.largest[..layout.numbers()].contains(&0) && !self.random.once_in(4)
+    }
+
     /// One number of a table broken, within n or past it.
     fn break_table(&mut self, layout: Layout, setup: &Setup, table: &mut Table, parts: Parts) {
         let n = setup.slots as usize;
@@ -86,7 +91,7 @@ impl Maker {
             0..=3 => {
                 self.break_setup(Layout::Panel, &mut writer.setup, &mut writer.current);
                 // Then no number is above a largest value that is too small, and nothing else is broken.
-                if self.random.once_in(4) {
+                if self.clears(Layout::Panel, &writer.setup) {
                     writer.table = EMPTY;
                 }
             }
@@ -119,7 +124,7 @@ impl Maker {
         match self.random.below(14) {
             0..=3 => {
                 self.break_setup(layout, &mut reader.setup, &mut reader.current);
-                if self.random.once_in(4) {
+                if self.clears(layout, &reader.setup) {
                     (reader.shown, reader.pending) = (EMPTY, EMPTY);
                 }
             }

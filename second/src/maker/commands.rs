@@ -157,7 +157,9 @@ impl Maker {
             _ => {
                 self.tag("commands: any first byte");
                 self.next_first_byte = self.next_first_byte.wrapping_add(37);
-                vec![self.next_first_byte]
+                // One byte in all of them is rare, so those beside the commands' own come more often.
+                let beside = self.random.pick(&[0x06, 0x0A, 0x0F, 0x1A, 0x1D, 0x7F, 0x81]);
+                vec![self.random.pick(&[self.next_first_byte, beside])]
             }
         }
     }

@@ -2,12 +2,13 @@
 
 use super::Maker;
 use crate::commands::Command;
+use crate::requests::Request;
 use crate::script::{head_numbers, reader_numbers, setup_numbers};
 use crate::script::{
-    Call, CommandsCall, ForceCall, RecorderCall, COMMANDS, CRANE, FORCE, PIECES, PIECES_NUMBERS, POD_NUMBERS, RECORDER,
-    WRITER_NUMBERS,
+    Call, CommandsCall, ForceCall, RecorderCall, BEFORE_POINTER, COMMANDS, CRANE, FORCE, PIECES, PIECES_NUMBERS,
+    POD_NUMBERS, RECORDER, WRITER_NUMBERS,
 };
-use crate::table::Layout;
+use crate::table::{Layout, SLOTS};
 
 /// Numbers that a type cannot hold: the next ones outside, and such as would be cut to good ones.
 type Outside = &'static [&'static str];
@@ -20,7 +21,7 @@ const NO_SIGNED_BYTE: Outside = &["128", "-129", "255", "-256"];
 const NO_COMMAND: Outside = &["10", "10", "11", "-1", "256", "4294967296"];
 const NO_BYTE: Outside = &["256", "-1", "257"];
 const NO_MODE: Outside = &["3", "3", "-1", "256", "4294967296"];
-const NO_WAITS: Outside = &["2", "2", "3", "-1", "256", "257", "4294967296", "4294967297"];
+const NO_FLAG: Outside = &["2", "2", "3", "-1", "256", "257", "4294967296", "4294967297"];
 const NO_SIZE: Outside = &["4097", "4097", "-1", "4294967296", "65536"];
 
 impl Maker {
@@ -34,11 +35,12 @@ impl Maker {
             }
             4 => return self.bad_waits(),
             5 => return self.bad_cut(),
+            6 if self.requests.contains(&Request::Pointer) => return self.bad_option(),
             _ => {}
         }
         let call = match self.call() {
             // It has no number to leave out or to change.
-            Call::Start => Call::New(self.setup(Layout::Panel)),
+            Call::Start => Call::New { setup: self.setup(Layout::Panel), pointer: false },
             call => call,
         };
         self.tags.clear();
@@ -59,7 +61,7 @@ impl Maker {
                     let full = [
                         "start",
                         "fresh 1 2 3 4 5 6",
-                        "new 1 2 3 4 5 6",
+                        "new 1 2 3 4 5 6 0",
                         "crane_fresh 1 2 3 4",
                         "pieces_fresh 1 2 3 4 5 6",
                     ];
@@ -85,7 +87,26 @@ impl Maker {
         self.tags.clear();
         self.tag("line: a pod that waits by neither 0 nor 1");
         let mut words: Vec<&str> = line.split(' ').collect();
-        words[1] = self.random.pick(NO_WAITS);
+        words[1] = self.random.pick(NO_FLAG);
+        words.join(" ")
+    }
+
+    /// A good call of a writer but for the option.
+    fn bad_option(&mut self) -> String {
+        let (call, place) = match self.random.below(3) {
+            0 => (Call::New { setup: self.setup(Layout::Panel), pointer: true }, setup_numbers(Layout::Panel) + 1),
+            1 => (self.write(), BEFORE_POINTER + 1),
+            _ => {
+                let writer = self.fresh_pointing();
+                let frame = self.pointer_frame(&writer);
+                (Call::Write { writer, position: 0, size: 40, frame }, BEFORE_POINTER + 1)
+            }
+        };
+        self.tags.clear();
+        self.tag("line: an option that is neither 0 nor 1");
+        let line = call.line();
+        let mut words: Vec<&str> = line.split(' ').collect();
+        words[place] = self.random.pick(NO_FLAG);
         words.join(" ")
     }
 
@@ -145,7 +166,7 @@ impl Maker {
     fn other_prefix(&mut self, call: &Call) -> String {
         let name = call.name();
         if let Some(name) = name.strip_prefix(PIECES).filter(|_| self.random.once_in(2)) {
-            return self.random.pick(&["piece_", "pieces", "pieces-", "Pieces_"]).to_string() + name;
+            return self.random.pick(&["piece_", "piece_", "pieces", "pieces-", "Pieces_"]).to_string() + name;
         }
         if let Some(name) = name.strip_prefix(RECORDER) {
             return self.random.pick(&["record_", "recorder", "recorder-", "crane_recorder_", ""]).to_string() + name;
@@ -204,7 +225,8 @@ impl Maker {
             Call::Start | Call::Pod { .. } | Call::Recorder(_) | Call::Force(_) | Call::Commands(_) => {
                 return Vec::new()
             }
-            Call::Fresh(..) | Call::New(_) | Call::PiecesFresh(_) => return setup.collect(),
+            Call::New { .. } => return setup.chain([(setup_numbers(layout) + 1, NO_FLAG)]).collect(),
+            Call::Fresh(..) | Call::PiecesFresh(_) => return setup.collect(),
             Call::Write { .. } => (1, vec![NO_32_BITS]),
             _ => (2, vec![NO_MODE, NO_MODE]),
         };
@@ -219,13 +241,21 @@ impl Maker {
             .collect()
     }
 
+    /// The same of what a writer holds for the display; of its ranks one.
+    fn pointer_places(&mut self) -> Vec<(usize, Outside)> {
+        let rank = self.random.from_to(1, SLOTS as u64) as usize;
+        let kinds = [NO_FLAG, NO_BYTE, NO_16_BITS, NO_32_BITS, NO_32_BITS];
+        let told = kinds.into_iter().enumerate().map(|(i, outside)| (BEFORE_POINTER + 1 + i, outside));
+        told.chain([(BEFORE_POINTER + kinds.len() + rank, NO_BYTE)]).collect()
+    }
+
     /// The same of what stands behind the state; `last` is the place of the line's last number.
     fn rest_places(&mut self, call: &Call, last: usize) -> Vec<(usize, Outside)> {
         let state = fixed(call);
         match call {
             Call::Pod { .. } => {
                 let byte = self.random.from_to(3, last as u64) as usize;
-                vec![(1, NO_WAITS), (2, NO_64_BITS), (byte, NO_BYTE), (last, NO_BYTE)]
+                vec![(1, NO_FLAG), (2, NO_64_BITS), (byte, NO_BYTE), (last, NO_BYTE)]
             }
             Call::Run { .. } if last > state => vec![(last, NO_BYTE); 3],
             Call::One { .. } => vec![(last - 2, NO_16_BITS), (last - 1, NO_16_BITS), (last, NO_SIGNED_32)],
@@ -242,7 +272,7 @@ impl Maker {
             Call::Write { .. } => {
                 let room = [(WRITER_NUMBERS + 1, NO_64_BITS), (WRITER_NUMBERS + 2, NO_SIZE)];
                 let frame = if last > state { vec![(last, NO_SIGNED_32)] } else { Vec::new() };
-                [&room[..], &room, &frame].concat()
+                [&room[..], &room, &frame, &self.pointer_places()].concat()
             }
             Call::Recorder(call) => recorder_places(call, last),
             Call::Force(call) => force_places(call, last),
@@ -257,7 +287,8 @@ fn fixed(call: &Call) -> usize {
     let layout = call.layout().unwrap_or(Layout::Panel);
     match call {
         Call::Start => 0,
-        Call::Fresh(..) | Call::New(_) | Call::PiecesFresh(_) => setup_numbers(layout),
+        Call::Fresh(..) | Call::PiecesFresh(_) => setup_numbers(layout),
+        Call::New { .. } => setup_numbers(layout) + 1,
         Call::PiecesTake { .. } => PIECES_NUMBERS + 2,
         Call::PiecesLoad { .. } | Call::PiecesAsk { .. } => PIECES_NUMBERS + 1,
         Call::Pod { .. } => POD_NUMBERS + 1,
@@ -281,7 +312,7 @@ fn commands_places(call: &CommandsCall, last: usize) -> Vec<(usize, Outside)> {
         CommandsCall::Read { .. } => return vec![(1, NO_64_BITS), (last, NO_BYTE)],
         CommandsCall::Write { command, .. } => command,
     };
-    let mut places = vec![(1, NO_WAITS), (2, NO_64_BITS), (POD_NUMBERS, NO_BYTE)];
+    let mut places = vec![(1, NO_FLAG), (2, NO_64_BITS), (POD_NUMBERS, NO_BYTE)];
     places.extend([(POSITION, NO_64_BITS), (POSITION + 1, NO_SIZE), (COMMAND, NO_COMMAND)]);
     match command {
         Command::Absolute { .. } | Command::Load { .. } => places.extend([(last - 1, NO_16_BITS), (last, NO_16_BITS)]),
@@ -328,7 +359,7 @@ pub(super) fn takes_any_count(call: &Call) -> bool {
 fn other_word(call: &Call) -> String {
     let word = match call {
         Call::Fresh(..) => "foo",
-        Call::New(_) => "next",
+        Call::New { .. } => "next",
         Call::Run { .. } => "read",
         Call::One { .. } => "open",
         Call::Load { .. } => "list",

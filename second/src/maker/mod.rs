@@ -11,11 +11,14 @@ mod loads;
 mod numbers;
 mod pieces;
 mod pods;
+pub mod pointer;
 mod recorder;
 mod runs;
 mod states;
 pub mod tried;
 mod writing;
+
+pub(crate) use writing::need_of;
 
 use crate::pod::Pod;
 use crate::random::Random;
@@ -30,14 +33,23 @@ const KEPT_STATES: usize = 6;
 /// One line in so many is at a limit. There are five kinds of them, so that 4,000 calls try each.
 const LIMIT_TURN: u64 = 800;
 const LIMITS: u64 = 5;
-/// So many calls in a turn are those of 01 and of the requests that `drive` always knew; each later request adds so many.
+/// So many calls in a turn are those of 01 and of the requests that `drive` always knew.
 const TURN: u64 = 108;
-const LATER: u64 = 12;
+
+/// How many each later request adds: more where states are kept and broken than where there are none.
+const fn share(request: Request) -> u64 {
+    match request {
+        Request::Recorder | Request::Force | Request::Commands => 12,
+        Request::Pointer => 16,
+    }
+}
 
 /// Makes one call after the other; some go on from the states that those before them ended in.
 pub struct Maker {
     pub(crate) random: Random,
     writers: Vec<Writer>,
+    /// Those with the option on.
+    pointing: Vec<Writer>,
     readers: Vec<Reader>,
     cranes: Vec<Reader>,
     pod: Pod,
@@ -59,6 +71,7 @@ impl Maker {
         let mut maker = Maker {
             random: Random::new(seed),
             writers: Vec::new(),
+            pointing: Vec::new(),
             readers: Vec::new(),
             cranes: Vec::new(),
             pod: Pod::FRESH,
@@ -70,10 +83,12 @@ impl Maker {
         };
         for _ in 0..KEPT_STATES {
             let setup = maker.setup(Layout::Panel);
-            maker.writers.push(Writer::fresh(setup).expect("a good setup"));
+            maker.writers.push(Writer::fresh(setup, false).expect("a good setup"));
             maker.readers.push(Reader::fresh(Layout::Panel, setup).expect("a good setup"));
             let setup = maker.setup(Layout::Crane);
             maker.cranes.push(Reader::fresh(Layout::Crane, setup).expect("a good setup"));
+            let pointing = maker.fresh_pointing();
+            maker.pointing.push(pointing);
         }
         maker
     }
@@ -108,8 +123,9 @@ impl Maker {
     }
 
     fn call(&mut self) -> Call {
-        match self.random.below(TURN + LATER * self.requests.len() as u64) {
-            0..=3 => Call::New(self.any_setup(Layout::Panel)),
+        let later: u64 = self.requests.iter().map(|request| share(*request)).sum();
+        match self.random.below(TURN + later) {
+            0..=3 => Call::New { setup: self.any_setup(Layout::Panel), pointer: false },
             4..=32 => self.write(),
             33..=67 => self.reader_call(Layout::Panel),
             68..=90 => {
@@ -119,8 +135,14 @@ impl Maker {
             91 => Call::Start,
             92..=99 => self.pod(),
             100..TURN => self.pieces_call(),
-            turn => self.later_call(self.requests[((turn - TURN) / LATER) as usize]),
+            turn => self.later_call(self.later(turn - TURN)),
         }
+    }
+
+    /// The request whose share a turn behind the others falls into.
+    fn later(&self, turn: u64) -> Request {
+        let mut shares = self.requests.iter().flat_map(|request| (0..share(*request)).map(|_| *request));
+        shares.nth(turn as usize).expect("a turn of one of them")
     }
 
     fn later_call(&mut self, request: Request) -> Call {
@@ -128,6 +150,7 @@ impl Maker {
             Request::Recorder => Call::Recorder(self.recorder_call()),
             Request::Force => Call::Force(self.force_call()),
             Request::Commands => Call::Commands(self.commands_call()),
+            Request::Pointer => self.pointer_call(),
         }
     }
 

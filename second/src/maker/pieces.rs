@@ -41,7 +41,7 @@ impl Maker {
         if self.random.once_in(10) {
             return Vec::new();
         }
-        if self.random.once_in(60) {
+        if self.random.once_in(40) {
             self.tag("pieces: a long string");
             return self.run_of(reader, 300, false);
         }

@@ -2,7 +2,9 @@
 
 use super::Maker;
 use crate::events::{Event, ABS_MT_SLOT, KNOWN_TYPES, RECORD};
+use crate::pointer::Pointer;
 use crate::reader::{Mode, Reader};
+use crate::requests::Request;
 use crate::script::{reader_numbers, Call, MOST_NUMBERS};
 use crate::table::{live_ids_differ, Layout, NARROW};
 use crate::writer::{Writer, LARGEST_FRAME};
@@ -102,7 +104,12 @@ impl Maker {
                 }
             }
         }
-        Writer { setup, current: reader.current, counter: self.window(), table }
+        let mut pointer = Pointer::OFF;
+        if self.requests.contains(&Request::Pointer) && self.random.once_in(4) {
+            self.tag("pointer: emulated events are read");
+            pointer = self.any_pointer(&setup, &table);
+        }
+        Writer { setup, current: reader.current, counter: self.window(), table, pointer }
     }
 
     /// Hundreds of records that add to one count: skipped for either reason, shown, or ignored behind a loss.

@@ -2,6 +2,7 @@
 
 use super::ids::Ids;
 use super::{Maker, KEPT_STATES};
+use crate::pointer::Pointer;
 use crate::reader::{Mode, Reader};
 use crate::table::{Layout, Setup, SlotNumber, Table, TrackingId, EMPTY, PRESSURE};
 use crate::writer::Writer;
@@ -25,8 +26,8 @@ impl Maker {
         table
     }
 
-    fn any_writer(&mut self) -> Writer {
-        let setup = self.setup(Layout::Panel);
+    /// A well-formed writer of this setup, with the option off.
+    pub(super) fn any_writer(&mut self, setup: Setup) -> Writer {
         let ids = self.ids();
         let mut table = self.any_table(Layout::Panel, &setup, ids);
         // Where contacts press with 0, as older tables have it, no frame leaves the table as it is.
@@ -36,7 +37,7 @@ impl Maker {
             }
         }
         let current = SlotNumber(self.slot(setup.slots));
-        Writer { setup, current, counter: self.counter(ids, &table), table }
+        Writer { setup, current, counter: self.counter(ids, &table), table, pointer: Pointer::OFF }
     }
 
     fn any_reader(&mut self, layout: Layout) -> Reader {
@@ -81,11 +82,12 @@ impl Maker {
         let which = self.random.below(KEPT_STATES as u64) as usize;
         if self.random.once_in(25) {
             let setup = self.setup(Layout::Panel);
-            self.writers[which] = Writer::fresh(setup).expect("a good setup");
+            self.writers[which] = Writer::fresh(setup, false).expect("a good setup");
         }
         if self.random.once_in(3) {
             self.tag("state: any well-formed one");
-            let writer = self.any_writer();
+            let setup = self.setup(Layout::Panel);
+            let writer = self.any_writer(setup);
             if self.random.once_in(3) {
                 self.writers[which] = writer.clone();
             }

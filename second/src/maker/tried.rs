@@ -214,12 +214,51 @@ const COMMANDS: &[&str] = &[
     "commands: position near 2^64",
 ];
 
+/// What is tried with pointer emulation.
+const POINTER: &[&str] = &[
+    "pointer: a new writer",
+    "pointer: one lands",
+    "pointer: two to five land",
+    "pointer: six or more land",
+    "pointer: lands where X and Y stand",
+    "pointer: the oldest lifts",
+    "pointer: the oldest is replaced",
+    "pointer: the oldest moves",
+    "pointer: another moves",
+    "pointer: all land, every number changed",
+    "pointer: all lift",
+    "pointer: all are replaced",
+    "pointer: a lift and a landing",
+    "pointer: no contact, X and Y kept",
+    "pointer: room for the contact events alone",
+    "pointer: emulated events are read",
+    "broken: pointer, a gap in the ranks",
+    "broken: pointer, no rank 0",
+    "broken: pointer, a rank of 32 or more",
+    "broken: pointer, the rank of an unused slot",
+    "broken: pointer, a rank past n",
+    "broken: pointer, touch",
+    "broken: pointer, tool",
+    "broken: pointer, X is not the oldest's",
+    "broken: pointer, Y is not the oldest's",
+    "broken: pointer, X out of range",
+    "broken: pointer, Y out of range",
+    "broken: pointer off, all as with it on",
+    "broken: pointer off, touch",
+    "broken: pointer off, tool",
+    "broken: pointer off, X",
+    "broken: pointer off, Y",
+    "broken: pointer off, a rank",
+    "line: an option that is neither 0 nor 1",
+];
+
 /// What is tried with a request that `drive` did not always know.
 fn later(request: Request) -> &'static [&'static str] {
     match request {
         Request::Recorder => RECORDER,
         Request::Force => FORCE,
         Request::Commands => COMMANDS,
+        Request::Pointer => POINTER,
     }
 }
 

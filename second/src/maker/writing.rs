@@ -28,15 +28,10 @@ impl Maker {
         if self.random.once_in(6) {
             self.break_frame(&writer, &mut frame);
         }
-        let mut probe = writer.clone();
-        let need = match probe.write(&frame, &mut [0; LARGEST_FRAME], 0) {
-            Ok(written) => written.events as usize * RECORD,
-            Err(_) => self.random.pick(&[0, 16, 40]),
-        };
+        let need = need_of(&writer, &frame).unwrap_or_else(|| self.random.pick(&[0, 16, 40]));
         let (position, size) = self.room(need);
-        let fits = position.checked_add(need as u64).is_some_and(|end| end <= size as u64);
-        if kept && fits && self.writers[which] == writer {
-            self.writers[which] = probe;
+        if kept && self.writers[which] == writer {
+            move_on(&mut self.writers[which], &frame, size, position);
         }
         Call::Write { writer, position, size, frame }
     }
@@ -143,7 +138,7 @@ impl Maker {
     }
 
     /// What a slot without a contact has in the frame does not matter.
-    fn put_junk(&mut self, frame: &mut [i32]) {
+    pub(super) fn put_junk(&mut self, frame: &mut [i32]) {
         for wanted in frame.chunks_exact_mut(SLOT_NUMBERS).filter(|wanted| wanted[0] == 0) {
             self.tag("frame: junk in slots of kind 0");
             for number in &mut wanted[1..] {
@@ -181,7 +176,7 @@ impl Maker {
         numbers[i] = self.other_number(numbers[i] as u32, setup.largest[i]) as i32;
     }
 
-    fn break_frame(&mut self, writer: &Writer, frame: &mut Vec<i32>) {
+    pub(super) fn break_frame(&mut self, writer: &Writer, frame: &mut Vec<i32>) {
         if self.random.once_in(10) {
             self.tag("frame: four numbers a slot");
             *frame = resized(frame, SLOT_NUMBERS, Layout::Crane.slot_numbers());
@@ -276,7 +271,7 @@ impl Maker {
     }
 
     /// Where a frame is to go: mostly near the buffer's start, since every byte of the buffer is printed.
-    fn position(&mut self) -> u64 {
+    pub(super) fn position(&mut self) -> u64 {
         if self.random.once_in(100) {
             return self.random.below((LARGEST_BUFFER - LARGEST_FRAME) as u64);
         }
@@ -288,8 +283,19 @@ impl Maker {
     }
 }
 
+/// The bytes that a frame needs; `None` where it is refused.
+pub(crate) fn need_of(writer: &Writer, frame: &[i32]) -> Option<usize> {
+    let written = writer.clone().write(frame, &mut [0; LARGEST_FRAME], 0).ok()?;
+    Some(written.events as usize * RECORD)
+}
+
+/// The writer behind the call; where that is refused it stays.
+pub(super) fn move_on(writer: &mut Writer, frame: &[i32], size: usize, position: u64) {
+    let _ = writer.write(frame, &mut vec![0; size], position);
+}
+
 /// The rows of a frame that changes none of these slots.
-fn equal(slots: &[Slot]) -> Vec<i32> {
+pub(super) fn equal(slots: &[Slot]) -> Vec<i32> {
     let row = |slot: &Slot| {
         let numbers = slot.numbers.map(|number| number as i32);
         [i32::from(slot.id.is_live())].into_iter().chain(numbers)

@@ -22,8 +22,8 @@ impl Call {
                 line.verdict(&made);
                 line.reader(&made.unwrap_or_else(|_| Reader::zeros(*layout)));
             }
-            Call::New(setup) => {
-                let made = Writer::fresh(*setup);
+            Call::New { setup, pointer } => {
+                let made = Writer::fresh(*setup, *pointer);
                 line.verdict(&made);
                 line.writer(&made.unwrap_or(Writer::ZEROS));
             }

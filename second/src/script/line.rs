@@ -4,6 +4,7 @@ use std::fmt;
 
 use crate::pieces::PieceReader;
 use crate::pod::Pod;
+use crate::pointer::Pointer;
 use crate::reader::{Mode, Ran, Reader};
 use crate::refusal::Refusal;
 use crate::table::{Layout, Setup, Slot, Table};
@@ -90,6 +91,16 @@ impl Line {
         self.put(writer.current.0);
         self.put(writer.counter);
         self.table(Layout::Panel, &writer.table);
+        self.pointer(&writer.pointer);
+    }
+
+    fn pointer(&mut self, pointer: &Pointer) {
+        let Pointer { on, told, ranks } = pointer;
+        self.put(*on as u8);
+        self.put(told.touch);
+        self.put(told.tool);
+        self.all(&[told.x, told.y]);
+        self.all(ranks);
     }
 
     pub(super) fn pod(&mut self, pod: &Pod) {

@@ -18,7 +18,7 @@ use crate::events::Event;
 use crate::pieces::{PieceReader, LEFT_OVER};
 use crate::pod::{Pod, PLACES};
 use crate::reader::Reader;
-use crate::table::{Layout, Setup, SlotNumber};
+use crate::table::{Layout, Setup, SlotNumber, SLOTS};
 use crate::writer::Writer;
 use line::Line;
 use numbers::Numbers;
@@ -60,8 +60,12 @@ pub const fn reader_numbers(layout: Layout) -> usize {
 
 /// The head of a writer.
 pub const WRITER_HEAD: usize = head_numbers(Layout::Panel);
-/// The head and the table.
-pub const WRITER_NUMBERS: usize = WRITER_HEAD + table_numbers(Layout::Panel);
+/// What stands before the option and K6's numbers: the head and the table.
+pub const BEFORE_POINTER: usize = WRITER_HEAD + table_numbers(Layout::Panel);
+/// The option, what the display was told last, and a rank for each record.
+pub const POINTER_NUMBERS: usize = 5 + SLOTS;
+/// All of a writer.
+pub const WRITER_NUMBERS: usize = BEFORE_POINTER + POINTER_NUMBERS;
 /// The reader, how many bytes are held, and the places.
 pub const PIECES_NUMBERS: usize = reader_numbers(Layout::Panel) + 1 + LEFT_OVER;
 /// Whether it waits, how many bytes are held, and the places.
@@ -71,7 +75,7 @@ pub const POD_NUMBERS: usize = 2 + PLACES;
 #[derive(Clone, PartialEq, Eq, Debug)]
 pub enum Call {
     Fresh(Layout, Setup),
-    New(Setup),
+    New { setup: Setup, pointer: bool },
     Run { reader: Reader, bytes: Vec<u8> },
     One { reader: Reader, event: Event },
     Load { reader: Reader, current: SlotNumber, image: Vec<i32> },
@@ -201,7 +205,7 @@ impl Call {
     pub fn name(&self) -> String {
         let name = match self {
             Call::Fresh(..) => "fresh",
-            Call::New(_) => "new",
+            Call::New { .. } => "new",
             Call::Run { .. } => "run",
             Call::One { .. } => "one",
             Call::Load { .. } => "load",
@@ -227,7 +231,7 @@ impl Call {
         let mut line = Line::from(self.name());
         match self {
             Call::Fresh(layout, setup) => line.setup(*layout, setup),
-            Call::New(setup) | Call::PiecesFresh(setup) => line.setup(Layout::Panel, setup),
+            Call::New { setup, .. } | Call::PiecesFresh(setup) => line.setup(Layout::Panel, setup),
             Call::PiecesTake { pieces, .. } | Call::PiecesLoad { pieces, .. } | Call::PiecesAsk { pieces, .. } => {
                 line.pieces(pieces);
             }
@@ -270,7 +274,8 @@ impl Call {
             Call::Recorder(call) => call.put(line),
             Call::Force(call) => call.put(line),
             Call::Commands(call) => call.put(line),
-            Call::Fresh(..) | Call::New(_) | Call::Good { .. } | Call::PiecesFresh(_) | Call::Start => {}
+            Call::New { pointer, .. } => line.put(*pointer as u8),
+            Call::Fresh(..) | Call::Good { .. } | Call::PiecesFresh(_) | Call::Start => {}
         }
     }
 }

@@ -4,6 +4,7 @@ use super::{Call, Cut, LARGEST_BUFFER, MOST_NUMBERS};
 use crate::events::Event;
 use crate::pieces::{PieceReader, LEFT_OVER};
 use crate::pod::{Pod, PLACES};
+use crate::pointer::{Pointer, Told};
 use crate::reader::{Mode, Reader};
 use crate::table::{Layout, Setup, SlotNumber, Table, TrackingId, EMPTY};
 use crate::writer::Writer;
@@ -53,7 +54,7 @@ impl Numbers {
     /// A call of the writer or of a pod.
     pub(super) fn other_call(&mut self, name: &str) -> Option<Call> {
         Some(match name {
-            "new" => Call::New(self.setup(Layout::Panel)?),
+            "new" => Call::New { setup: self.setup(Layout::Panel)?, pointer: self.flag()? },
             "write" => {
                 Call::Write { writer: self.writer()?, position: self.one()?, size: self.size()?, frame: self.rest()? }
             }
@@ -150,16 +151,31 @@ impl Numbers {
             current: SlotNumber(self.one()?),
             counter: self.one()?,
             table: self.table(Layout::Panel)?,
+            pointer: self.pointer()?,
         })
     }
 
+    fn pointer(&mut self) -> Option<Pointer> {
+        let on = self.flag()?;
+        let told = Told { touch: self.one()?, tool: self.one()?, x: self.one()?, y: self.one()? };
+        let mut pointer = Pointer { on, told, ..Pointer::OFF };
+        for rank in &mut pointer.ranks {
+            *rank = self.one()?;
+        }
+        Some(pointer)
+    }
+
+    /// Whether something is so: 0 or 1.
+    fn flag(&mut self) -> Option<bool> {
+        match self.0.next()? {
+            0 => Some(false),
+            1 => Some(true),
+            _ => None,
+        }
+    }
+
     pub(super) fn pod(&mut self) -> Option<Pod> {
-        let waits = match self.0.next()? {
-            0 => false,
-            1 => true,
-            _ => return None,
-        };
-        let mut pod = Pod { waits, held: self.one()?, bytes: [0; PLACES] };
+        let mut pod = Pod { waits: self.flag()?, held: self.one()?, bytes: [0; PLACES] };
         for byte in &mut pod.bytes {
             *byte = self.one()?;
         }

@@ -13,6 +13,11 @@ fn empty() -> String {
     UNUSED.repeat(SLOTS)
 }
 
+/// What a writer holds for a display with the option off.
+fn off() -> String {
+    "0 ".repeat(POINTER_NUMBERS)
+}
+
 fn crane_empty() -> String {
     "-1 0 0 0 ".repeat(16)
 }
@@ -20,7 +25,7 @@ fn crane_empty() -> String {
 #[test]
 fn as_many_numbers_as_the_page_says() {
     assert_eq!(reader_numbers(Layout::Panel), 392);
-    assert_eq!(WRITER_NUMBERS, 200);
+    assert_eq!(WRITER_NUMBERS, 237);
     assert_eq!(reader_numbers(Layout::Crane), 134);
     assert_eq!(PIECES_NUMBERS, 400);
 }
@@ -127,7 +132,9 @@ fn a_carriage_return_is_part_of_its_line() {
 
 #[test]
 fn a_refused_setup_leaves_zeros() {
-    assert_eq!(answer("new 0 1 1 1 1 1"), format!("1{}", " 0".repeat(WRITER_NUMBERS)));
+    for option in [0, 1] {
+        assert_eq!(answer(&format!("new 0 1 1 1 1 1 {option}")), format!("1{}", " 0".repeat(WRITER_NUMBERS)));
+    }
     let most = SLOTS + 1;
     assert_eq!(answer(&format!("fresh {most} 1 1 1 1 1")), format!("1{}", " 0".repeat(reader_numbers(Layout::Panel))));
     assert_eq!(answer("fresh 1 1 1 1 1 256"), format!("1{}", " 0".repeat(reader_numbers(Layout::Panel))));
@@ -236,16 +243,40 @@ fn packets_read_and_written() {
     }
 }
 
+/// Option, touch, tool, X, Y and the ranks, in this order behind the table.
+#[test]
+fn a_writer_with_a_display() {
+    let (head, ranks) = ("2 9 9 9 9 9 0", "0 ".repeat(SLOTS - 2));
+    let fresh = format!("0 {}1 0 0 0 0 0 0 {ranks}", empty());
+    assert_eq!(answer("new 2 9 9 9 9 9 1"), format!("0 {head} {fresh}").trim_end());
+    let rest = UNUSED.repeat(SLOTS - 2);
+    let two = format!("2 0 3 4 5 0 0 1 6 7 5 0 0 {rest}1 1 333 6 7 1 0 {ranks}");
+    let lifted = format!("2 0 3 4 5 0 0 -1 6 7 5 0 0 {rest}1 1 325 3 4 0 0 {ranks}");
+    let slot = "3 0 47 0 1 0 0 0 3 0 57 0 255 255 255 255";
+    let tools = "1 0 77 1 0 0 0 0 1 0 69 1 1 0 0 0";
+    let place = "3 0 0 0 3 0 0 0 3 0 1 0 4 0 0 0";
+    assert_eq!(
+        answer(&format!("write {head} {two}0 56 1 3 4 5 0 0 0 0 0 0 0 0")),
+        format!("0 2 9 9 9 9 9 1 {lifted}7 2 0 : {slot} {tools} {place} 0 0 0 0 0 0 0 0")
+    );
+    let marks: String = marks(55).iter().map(|mark| format!(" {mark}")).collect();
+    assert_eq!(
+        answer(&format!("write {head} {two}0 55 1 3 4 5 0 0 0 0 0 0 0 0")),
+        format!("5 {head} {two}0 0 56 :{marks}")
+    );
+}
+
 #[test]
 fn a_buffer_keeps_its_marks() {
-    let writer = format!("1 9 9 9 9 9 0 0 {}", empty());
+    let writer = format!("1 9 9 9 9 9 0 0 {}{}", empty(), off());
     assert_eq!(answer(&format!("write {writer}0 4 0 0 0 0 0 0")), format!("0 {writer}0 0 0 : 11 48 85 122"));
     assert_eq!(answer(&format!("write {writer}0 0 0 0 0 0 0 0")), format!("0 {writer}0 0 0 :"));
 }
 
 #[test]
 fn lines_that_are_no_call() {
-    let (table, crane) = (empty(), crane_empty());
+    let (table, crane, off) = (empty(), crane_empty(), off());
+    let ranks = "0 ".repeat(SLOTS);
     for line in [
         " ".to_string(),
         "zero 1 2 3 4".to_string(),
@@ -261,7 +292,11 @@ fn lines_that_are_no_call() {
         "fresh 18446744073709551616 2 3 4 5 6".to_string(),
         "crane_fresh 1 2 3".to_string(),
         "crane_fresh 1 2 3 4 5 6".to_string(),
-        "crane_new 1 2 3 4 5 6".to_string(),
+        "new 1 2 3 4 5 6".to_string(),
+        "new 1 2 3 4 5 6 2".to_string(),
+        "new 1 2 3 4 5 6 -1".to_string(),
+        "new 1 2 3 4 5 6 1 0".to_string(),
+        "crane_new 1 2 3 4 5 6 0".to_string(),
         "crane_new 1 2 3 4".to_string(),
         "crane_start".to_string(),
         "crane_".to_string(),
@@ -276,8 +311,15 @@ fn lines_that_are_no_call() {
         "pod -1 0 0 0 0 0 0 0 1".to_string(),
         "pod 256 0 0 0 0 0 0 0 1".to_string(),
         "start 0".to_string(),
-        format!("write 1 9 9 9 9 9 0 0 {table}0 4097 0 0 0 0 0 0"),
-        format!("write 1 9 9 9 9 9 0 0 {table}0 0 0 0 0 0 0 2147483648"),
+        format!("write 1 9 9 9 9 9 0 0 {table}{off}0 4097 0 0 0 0 0 0"),
+        format!("write 1 9 9 9 9 9 0 0 {table}{off}0 0 0 0 0 0 0 2147483648"),
+        format!("write 1 9 9 9 9 9 0 0 {table}0 0 0 0 0 0 0 0"),
+        format!("write 1 9 9 9 9 9 0 0 {table}2 0 0 0 0 {ranks}0 0 0 0 0 0 0 0"),
+        format!("write 1 9 9 9 9 9 0 0 {table}0 256 0 0 0 {ranks}0 0 0 0 0 0 0 0"),
+        format!("write 1 9 9 9 9 9 0 0 {table}0 0 65536 0 0 {ranks}0 0 0 0 0 0 0 0"),
+        format!("write 1 9 9 9 9 9 0 0 {table}0 0 0 -1 0 {ranks}0 0 0 0 0 0 0 0"),
+        format!("write 1 9 9 9 9 9 0 0 {table}0 0 0 0 4294967296 {ranks}0 0 0 0 0 0 0 0"),
+        format!("write 1 9 9 9 9 9 0 0 {table}0 0 0 0 0 256 {}0 0 0 0 0 0 0 0", &ranks[2..]),
         format!("ask 1 9 9 9 9 9 0 3 {table}{table}0"),
         format!("crane_ask 1 9 9 9 0 3 {crane}{crane}0"),
         format!("ask 1 9 9 9 0 0 {crane}{crane}0"),
@@ -327,11 +369,12 @@ fn numbers_for(name: &str) -> String {
     };
     match (layout, word) {
         (Layout::Crane, "fresh") => "1 2 3 4".to_string(),
-        (_, "fresh" | "new") => "1 2 3 4 5 6".to_string(),
+        (_, "fresh") => "1 2 3 4 5 6".to_string(),
+        (_, "new") => "1 2 3 4 5 6 1".to_string(),
         (_, "run" | "good") => reader,
         (_, "one") => format!("{reader}3 57 0"),
         (_, "load" | "ask") => format!("{reader}0"),
-        (_, "write") => format!("1 9 9 9 9 9 0 0 {}0 0 0 0 0 0 0 0", empty()),
+        (_, "write") => format!("1 9 9 9 9 9 0 0 {}{}0 0 0 0 0 0 0 0", empty(), off()),
         (_, "pod") => "0 0 0 0 0 0 0 0 1".to_string(),
         (_, "pieces_fresh") => "1 2 3 4 5 6".to_string(),
         (_, "pieces_take") => format!("{reader}0 0 0 0 0 0 0 0 2 1 0 9"),
@@ -367,7 +410,7 @@ fn a_word_is_written_out_whole() {
 fn spaces_and_zeros_too_many() {
     assert_eq!(answer("fresh  1 2  3 4 5 6"), answer("fresh 1 2 3 4 5 6"));
     assert_eq!(answer(" fresh 01 2 3 4 5 6 "), answer("fresh 1 2 3 4 5 6"));
-    assert_eq!(answer("new -0 2 3 4 5 6"), answer("new 0 2 3 4 5 6"));
+    assert_eq!(answer("new -0 2 3 4 5 6 01"), answer("new 0 2 3 4 5 6 1"));
     assert_eq!(answer("  crane_fresh 01 2 3 -0 "), answer("crane_fresh 1 2 3 0"));
     assert_eq!(answer("pod 0 0 0 0 0 0 0 0 1"), "0 0 0 0 0 0 0 0 down 1");
     assert_eq!(answer("pod 1 1 255 0 0 0 0 0 16 245"), "1 0 0 0 0 0 0 0 bad report / 1 0 0 0 0 0 0 0 up 117");

@@ -4,6 +4,7 @@ mod commands;
 mod expected;
 mod force;
 mod pieces;
+mod pointer;
 mod reading;
 mod recorder;
 #[cfg(test)]
@@ -108,7 +109,14 @@ impl Tally {
                 self.note(format!("{name}: unknown while {}", mode_name(reader.mode)));
             }
             Call::Run { .. } | Call::One { .. } if verdict == "0" => self.count_run(&call, &said),
-            Call::Write { writer, frame, .. } => self.count_write(writer, frame, &said),
+            Call::Write { writer, frame, position, .. } => {
+                self.count_write(writer, frame, &said);
+                self.count_pointer(writer, frame, *position, &said);
+            }
+            Call::New { pointer: true, .. } => {
+                self.note_when(verdict == "0", "new: the option on, accepted");
+                self.note_when(verdict == "1", "new: the option on, refused");
+            }
             Call::Recorder(call) => self.count_recorder(call, &said),
             Call::Force(call) => self.count_force(call, &said),
             _ => {}

@@ -10,7 +10,8 @@ use crate::script::answer_line;
 fn some_thousands_of_calls_show_everything() {
     for seed in [1, 2, 3] {
         let mut maker = Maker::with(seed, Request::ALL);
-        let script: String = (0..16_000).map(|_| maker.lines()).collect();
+        // As many as tools/compare asks all of it of.
+        let script: String = (0..20_000).map(|_| maker.lines()).collect();
         let mut answers = Vec::new();
         drive(script.as_bytes(), &mut answers, std::io::sink());
         let tally = Tally::of(&script, std::str::from_utf8(&answers).unwrap()).unwrap();

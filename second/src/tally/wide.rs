@@ -25,7 +25,7 @@ impl Tally {
         }
         match call {
             Call::Fresh(layout, setup) => self.count_slots(&call.name(), *layout, setup, verdict),
-            Call::New(setup) => self.count_slots("new", Layout::Panel, setup, verdict),
+            Call::New { setup, .. } => self.count_slots("new", Layout::Panel, setup, verdict),
             Call::Write { writer, .. } if verdict == "2" && is_in_both(&ids(&writer.table)) => {
                 self.note("write: refused for an id in both halves");
             }

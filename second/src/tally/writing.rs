@@ -3,11 +3,12 @@
 use super::{Tally, Words};
 use crate::script::{Call, WRITER_NUMBERS};
 use crate::table::{Slot, MAJOR, MINOR, PRESSURE, SLOT_NUMBERS};
-use crate::writer::{Writer, LARGEST_FRAME, MOST_EVENTS};
+use crate::writer::{Writer, LARGEST_FRAME, MOST_CONTACT_EVENTS};
 
-/// Places in the answer; between the two stands the number of the changed slots.
-const EVENTS: usize = WRITER_NUMBERS + 1;
+/// Places in the answer; between the first two stands the number of the changed slots, and behind the third the `:`.
+pub(super) const EVENTS: usize = WRITER_NUMBERS + 1;
 const NEED: usize = WRITER_NUMBERS + 3;
+pub(super) const BYTES: usize = NEED + 2;
 
 impl Tally {
     pub(super) fn count_write(&mut self, writer: &Writer, frame: &[i32], said: &Words) {
@@ -37,7 +38,7 @@ impl Tally {
         match said.at(EVENTS) {
             "" => return,
             "0" => self.accepted("no event"),
-            events if events == MOST_EVENTS.to_string() => self.accepted(&format!("{MOST_EVENTS} events")),
+            events if events == MOST_CONTACT_EVENTS.to_string() => self.accepted(&format!("{events} events")),
             _ => self.accepted("some events"),
         }
         if after.counter < writer.counter {

@@ -2,6 +2,7 @@
 #![allow(dead_code)]
 
 use second::events::{events, Event, RECORD};
+use second::pointer::Pointer;
 use second::reader::{Mode, Reader};
 use second::records::event_text;
 use second::refusal::Refusal;
@@ -28,7 +29,13 @@ pub fn table(slots: &[Slot]) -> Table {
 }
 
 pub fn writer(current: u64, counter: u32, slots: &[Slot]) -> Writer {
-    Writer { setup: panel(slots.len() as u64), current: SlotNumber(current), counter, table: table(slots) }
+    Writer {
+        setup: panel(slots.len() as u64),
+        current: SlotNumber(current),
+        counter,
+        table: table(slots),
+        pointer: Pointer::OFF,
+    }
 }
 
 pub fn following(current: u64, slots: &[Slot]) -> Reader {

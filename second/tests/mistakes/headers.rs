@@ -1,7 +1,7 @@
 //! Wrong programs that noise must notice: each reads the setup at the front of its input otherwise.
 
 use second::noise::noise;
-use second::programs::{run, HEADER};
+use second::programs::{run, HEADER, WITH_POINTER};
 
 /// Far fewer inputs than the gate's noise has for each program.
 pub const INPUTS: u64 = 200;
@@ -27,7 +27,9 @@ impl Reads {
         (0..INPUTS).find(|index| {
             let bytes = noise(self.program, seed, *index).expect("a program's name");
             let (status, out, err) = seen(self.answered_by, &(self.other)(&bytes));
-            seen(self.program, &bytes) != (status, out, err.replace(self.answered_by, self.program))
+            // An argument is not said on standard error.
+            let [program, other] = [self.program, self.answered_by].map(|name| name.split(' ').next().unwrap_or(name));
+            seen(self.program, &bytes) != (status, out, err.replace(other, program))
         })
     }
 }
@@ -97,5 +99,7 @@ pub fn all() -> Vec<Reads> {
     });
     reads("a crane prints six numbers", "crane_table", "show_table", <[u8]>::to_vec);
     reads("the panel's table has four numbers", "show_table", "crane_table", <[u8]>::to_vec);
+    reads("--pointer is passed over", WITH_POINTER, "write_frames", <[u8]>::to_vec);
+    reads("a display is always told", "write_frames", WITH_POINTER, <[u8]>::to_vec);
     all
 }

@@ -1,8 +1,8 @@
 //! Mistakes in how a line is read: its limits, its word, its spaces and its numbers.
 
-use second::script::{answer_line, head_numbers, layout_of, Call};
+use second::script::{answer_line, head_numbers, layout_of, setup_numbers, Call};
 use second::script::{
-    BAD_LINE, CRANE, LARGEST_BUFFER, LONGEST_LINE, MOST_NUMBERS, PIECES, PIECES_NUMBERS, POD_NUMBERS,
+    BAD_LINE, BEFORE_POINTER, CRANE, LARGEST_BUFFER, LONGEST_LINE, MOST_NUMBERS, PIECES, PIECES_NUMBERS, POD_NUMBERS,
 };
 use second::table::Layout;
 
@@ -73,6 +73,18 @@ fn with_waits(line: &str, is_it: fn(&str) -> bool, other: &'static str) -> Optio
         return None;
     }
     *all.get_mut(1).filter(|word| is_it(word))? = other;
+    Some(all.join(" "))
+}
+
+/// A writer's line with another option in place of such a one.
+fn with_option(line: &str, is_it: fn(&str) -> bool, other: &'static str) -> Option<String> {
+    let mut all: Vec<&str> = words(line).collect();
+    let place = match *all.first()? {
+        "new" => setup_numbers(Layout::Panel) + 1,
+        "write" => BEFORE_POINTER + 1,
+        _ => return None,
+    };
+    *all.get_mut(place).filter(|word| is_it(word))? = other;
     Some(all.join(" "))
 }
 
@@ -213,6 +225,14 @@ fn numerals() -> Vec<Wrong> {
         forgives("a pod's waits may be any number but 0", |line| with_waits(line, |waits| waits != "0", "1")),
         forgives("a pod's waits of -1 is 1", |line| with_waits(line, |waits| waits == "-1", "1")),
         forgives("a pod's waits is cut to 8 bits", |line| with_waits(line, |waits| waits == "257", "1")),
+        forgives("an option of 2 is on", |line| with_option(line, |option| option == "2", "1")),
+        forgives("an option of 2 is off", |line| with_option(line, |option| option == "2", "0")),
+        forgives("an option of -1 is on", |line| with_option(line, |option| option == "-1", "1")),
+        forgives("an option is cut to 8 bits", |line| with_option(line, |option| option == "257", "1")),
+        forgives("a new writer without its option has it off", |line| {
+            let is_it = line.trim_start().starts_with("new ") && numbers(line) == setup_numbers(Layout::Panel);
+            is_it.then(|| format!("{line} 0"))
+        }),
         forgives("-1 is 1 where no sign may be", |line| with_numbers(line, |number| number.replace("-1", "1"))),
     ];
     for bits in [8, 16, 32, 64] {

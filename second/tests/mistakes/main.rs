@@ -12,6 +12,7 @@ mod loads;
 mod losses;
 mod pieces;
 mod pods;
+mod pointer;
 mod pressures;
 mod recorder;
 mod records;
@@ -28,8 +29,8 @@ use second::script::{answer_line, Call};
 use second::table::Layout;
 use wrong::{Asked, Wrong};
 
-/// A fifth of the calls that the gate compares, so that chance alone hides none of them there.
-const ROUNDS: usize = 60_000;
+/// A quarter of the calls that the gate compares, so that chance alone hides none of them there.
+const ROUNDS: usize = 75_000;
 /// In each of these scripts every mistake must be noticed.
 const SEEDS: [u64; 3] = [1, 2, 3];
 
@@ -197,6 +198,12 @@ fn of_commands() {
     all_are_noticed("commands", On::All, commands::all());
 }
 
+#[test]
+fn of_pointers() {
+    all_are_noticed("pointer", On::All, pointer::of_writers());
+    all_are_noticed_in_readers("pointer", |_| pointer::of_readers());
+}
+
 /// Without a mistake the ways to answer wrongly answer right; else what is noticed might be theirs.
 #[test]
 fn without_a_mistake_nothing_is_noticed() {
@@ -211,5 +218,6 @@ fn without_a_mistake_nothing_is_noticed() {
     right.extend(recorder::right());
     right.extend(force::right());
     right.extend(commands::right());
+    right.extend(pointer::right());
     assert_eq!(noticed(&right, On::All, 4), vec![None; right.len()]);
 }

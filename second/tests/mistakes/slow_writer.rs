@@ -1,8 +1,9 @@
 //! A writer said the slow way, each of its parts a function that can be another one: what a wrong writer is made of.
 
 use second::events::*;
+use second::pointer::{Pointer, Ranks, Told};
 use second::script::{marks, Call};
-use second::table::{Slot, SlotNumber, TrackingId, NUMBERS, SLOT_NUMBERS};
+use second::table::{Slot, SlotNumber, Table, TrackingId, NUMBERS, SLOTS, SLOT_NUMBERS, X, Y};
 use second::writer::Writer;
 
 use crate::wrong::{answers, bytes_text, refusal, writer_text, Wrong};
@@ -38,6 +39,20 @@ pub struct Parts {
     pub name: fn(usize) -> i32,
     /// The numbers sent of a slot, old and new.
     pub numbers: fn(&Slot, &Slot) -> Vec<Event>,
+    /// The ranks afterwards, from the writer before and the new table.
+    pub ranks: fn(&Writer, &Table) -> Ranks,
+    /// The slot that the display follows.
+    pub followed: fn(&Table, &Ranks) -> Option<usize>,
+    /// The tool code of so many contacts.
+    pub tool: fn(usize) -> u16,
+    /// Where the display's pointer is with no contact, from what was told before.
+    pub still: fn(&Told) -> (u32, u32),
+    /// The emulated events told otherwise, from what was told before and is now.
+    pub retold: fn(&Told, &Told, &mut Five),
+    /// Those of them before the slots' events and those behind.
+    pub laid: fn(&Five) -> (Vec<Event>, Vec<Event>),
+    /// What is held for the display afterwards with the option off, from the writer before and the new table.
+    pub off: fn(&Writer, &Table) -> Pointer,
     /// How the events end, from those of the slots.
     pub end: fn(Vec<Event>) -> Vec<Event>,
     /// The current slot afterwards, from those sent and the old one.
@@ -74,6 +89,23 @@ pub const RIGHT: Parts = Parts {
         let pairs = six(old).into_iter().zip(six(new));
         pairs.filter(|(old, new)| old != new).map(|(_, new)| new).collect()
     },
+    ranks: |before, table| {
+        let taken = kept_ranks(before, table);
+        ranks_by(before, table, |s| taken.binary_search(&before.pointer.ranks[s]).unwrap_or(0), |_| taken.len())
+    },
+    followed: |table, ranks| (0..SLOTS).filter(|s| table[*s].id.is_live()).min_by_key(|s| (ranks[*s], *s)),
+    tool: |live| match live {
+        0 => 0,
+        1 => 0x145,
+        2 => 0x14d,
+        3 => 0x14e,
+        4 => 0x14f,
+        _ => 0x148,
+    },
+    still: |told| (told.x, told.y),
+    retold: |_, _, _| {},
+    laid: |told| (some(&told[..1]), some(&told[1..])),
+    off: |_, _| Pointer::OFF,
     end: |mut events| {
         if !events.is_empty() {
             events.push(Event::REPORT);
@@ -91,6 +123,48 @@ pub const RIGHT: Parts = Parts {
 pub fn six(slot: &Slot) -> Vec<Event> {
     let numbers = CODES.into_iter().zip(slot.numbers).map(|(code, number)| Event::abs(code, number as i32));
     [Event::abs(ABS_MT_TRACKING_ID, slot.id.0)].into_iter().chain(numbers).collect()
+}
+
+/// Whether a slot's contact goes on in the new table.
+pub fn goes_on(before: &Writer, table: &Table, s: usize) -> bool {
+    table[s].id.is_live() && table[s].id == before.table[s].id
+}
+
+/// The ranks of the contacts that go on, each once, rising.
+pub fn kept_ranks(before: &Writer, table: &Table) -> Vec<u8> {
+    let mut taken: Vec<u8> =
+        (0..SLOTS).filter(|s| goes_on(before, table, *s)).map(|s| before.pointer.ranks[s]).collect();
+    taken.sort_unstable();
+    taken.dedup();
+    taken
+}
+
+/// Ranks of contacts that go on and of those that begin; an unused slot has 0.
+pub fn ranks_by(before: &Writer, table: &Table, old: impl Fn(usize) -> usize, new: impl Fn(usize) -> usize) -> Ranks {
+    std::array::from_fn(|s| match (table[s].id.is_live(), goes_on(before, table, s)) {
+        (false, _) => 0,
+        (true, true) => old(s) as u8,
+        (true, false) => new(s) as u8,
+    })
+}
+
+/// What a display may be told: BTN_TOUCH, the old tool, the new one, X, Y.
+pub type Five = [Option<Event>; 5];
+
+/// Those that are.
+pub fn some(told: &[Option<Event>]) -> Vec<Event> {
+    told.iter().flatten().copied().collect()
+}
+
+fn five(old: &Told, new: &Told) -> Five {
+    let key = |code: u16, value: i32| Event { kind: 1, code, value };
+    [
+        (old.touch != new.touch).then(|| key(0x14a, new.touch.into())),
+        (old.tool != new.tool && old.tool != 0).then(|| key(old.tool, 0)),
+        (old.tool != new.tool && new.tool != 0).then(|| key(new.tool, 1)),
+        (old.x != new.x).then(|| Event::abs(0, new.x as i32)),
+        (old.y != new.y).then(|| Event::abs(1, new.y as i32)),
+    ]
 }
 
 /// A writer one part of which is changed.
@@ -127,7 +201,8 @@ pub fn accepts(name: impl Into<String>, when: impl Fn(&Writer, &[i32]) -> bool +
 impl Parts {
     /// Its answer to a frame that is refused by none of 2, 3 and 4.
     pub fn answer(&self, writer: &Writer, position: u64, size: usize, frame: &[i32]) -> String {
-        let after = self.table(writer, frame);
+        let mut after = self.table(writer, frame);
+        after.pointer = self.pointer(writer, &after.table);
         let is_changed = |s: &usize| after.table[*s] != writer.table[*s];
         let changed: Vec<usize> = (0..writer.setup.slots as usize).filter(is_changed).collect();
         let current = writer.current.0 as usize;
@@ -146,6 +221,20 @@ impl Parts {
         let after = Writer { current: SlotNumber((self.current)(&sent, current) as u64), ..after };
         let (count, bits) = (events.len(), (self.changed)(&changed));
         format!("0 {} {count} {bits} 0 :{}", writer_text(&after), bytes_text(&buffer))
+    }
+
+    /// What is held for the display afterwards.
+    fn pointer(&self, before: &Writer, table: &Table) -> Pointer {
+        if !before.pointer.on {
+            return (self.off)(before, table);
+        }
+        let ranks = (self.ranks)(before, table);
+        let live = table.iter().filter(|slot| slot.id.is_live()).count();
+        let (x, y) = match (self.followed)(table, &ranks) {
+            Some(s) => (table[s].numbers[X], table[s].numbers[Y]),
+            None => (self.still)(&before.pointer.told),
+        };
+        Pointer { on: true, told: Told { touch: u8::from(live > 0), tool: (self.tool)(live), x, y }, ranks }
     }
 
     /// The new table and counter.
@@ -199,6 +288,13 @@ impl Parts {
             }
             events.extend((self.numbers)(&writer.table[*s], &after.table[*s]));
             before = Some(*s);
+        }
+        if !events.is_empty() {
+            let (old, new) = (&writer.pointer.told, &after.pointer.told);
+            let mut told = five(old, new);
+            (self.retold)(old, new, &mut told);
+            let (first, last) = (self.laid)(&told);
+            events = [first, events, last].concat();
         }
         (self.end)(events)
     }

@@ -17,7 +17,7 @@ const READER_PLACES: [Place; 2] = [
 ];
 const WRITER_PLACES: [Place; 2] = [
     ("new", 1, |call| match call {
-        Call::New(setup) => Some(setup),
+        Call::New { setup, .. } => Some(setup),
         _ => None,
     }),
     ("a writer's", 2, |call| writer_of(call).map(|writer| &mut writer.setup)),

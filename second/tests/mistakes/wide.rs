@@ -93,7 +93,7 @@ fn frames() -> Vec<Wrong> {
             _ => false,
         }),
         refuses("a new writer has 16 slots at most", 1, |call| match call {
-            Call::New(setup) => setup.slots > NARROW as u64,
+            Call::New { setup, .. } => setup.slots > NARROW as u64,
             _ => false,
         }),
         refuses("a writer has 16 slots at most", 2, |call| {

@@ -200,7 +200,7 @@ fn verdict(answer: &str, call: &Call) -> (u8, Option<String>) {
 fn refused(call: &Call, number: u8) -> String {
     match call {
         Call::Fresh(layout, _) => format!("{number}{}", " 0".repeat(reader_numbers(*layout))),
-        Call::New(_) => format!("{number}{}", " 0".repeat(WRITER_NUMBERS)),
+        Call::New { .. } => format!("{number}{}", " 0".repeat(WRITER_NUMBERS)),
         Call::PiecesFresh(_) => format!("{number}{}", " 0".repeat(PIECES_NUMBERS)),
         Call::PiecesTake { pieces, cut } => {
             let step = format!("{number} {} {}", pieces_text(pieces), ran_text(&Ran::NOTHING));

@@ -26,7 +26,7 @@ put-requires : tie.Need-put-requires
 put-requires c κs =
     let e = c .before in
     let room = rw (differs e) at (start e .pre) in
-    rw (record-length 3 (change e .code) (change e .new)) at room
+    rw (record-length (change e .kind) (change e .code) (change e .new)) at room
 
 same-length : tie.Need-same-length
 same-length c = search needs
@@ -35,7 +35,7 @@ returns-2 : tie.Need-returns-2
 returns-2 c =
     let p = c .before .before in
     let e = p .before .before in
-    rw (differs e) (sym (record-length 3 (change e .code) (change e .new)), p .put .ensures)
+    rw (differs e) (sym (record-length (change e .kind) (change e .code) (change e .new)), p .put .ensures)
 
 pub put-number-spec : {M : Type 1} → statement M
 put-number-spec = tie.close (tie.spec returns put-requires same-length returns-2)

@@ -1,12 +1,13 @@
 -- `write_frames::send_frames` lends no byte past those lent to it. The loop has sent the frames before `at`. Assumes nothing.
-use Prim.Native.Nat.{_*_, ℕ, _≤_, _-_}
+use Prim.Native.Nat.{_+_, _*_, ℕ, _≤_, _-_}
 use mathlib.Core.Path.{_≡_, sym, subst}
 use mathlib.Core.List.{List}
 use lib.IntN.{ℤ}
 use Rattle.model.specs.Panel.{base, perSlot, records}
-use Rattle.model.specs.Calls.{mostEvents, writeCall}
+use Rattle.model.specs.Calls.{mostEvents}
+use Rattle.model.specs.Pointing.{pointerCall}
 use Rattle.model.proofs.Instances.{base-good}
-use Rattle.model.proofs.Limits.{limits}
+use Rattle.model.proofs.PointerCalls.{pointer-limits}
 use Rattle.writer.specs.declared.WriterState.{WriterState}
 use Rattle.writer.specs.declared.Written.{Written}
 use Rattle.writer.specs.Seen.{seen, writtenFrom}
@@ -76,8 +77,8 @@ write-requires : tie.Need-write-requires Inv-loop μ-loop
 write-requires c κs = search needs
 
 -- No answer of `write` has more events than a frame may have.
-few : (s : WriterState) (f : List ℤ) (at n : ℕ) (r : Written) → r ≡ writtenFrom (writeCall base (seen s) f at n) → r .count ≤ mostEvents base
-few s f at n r e = subst (λ (w : Written). w .count ≤ mostEvents base) (sym e) (limits base (seen s) f at n base-good .0)
+few : (s : WriterState) (f : List ℤ) (at n : ℕ) (r : Written) → r ≡ writtenFrom (pointerCall base (seen s) f at n) → r .count ≤ mostEvents base + 4
+few s f at n r e = subst (λ (w : Written). w .count ≤ mostEvents base + 4) (sym e) (pointer-limits base (seen s) f at n base-good .0)
 
 answered-requires : tie.Need-answered-requires Inv-loop μ-loop
 answered-requires c κs =

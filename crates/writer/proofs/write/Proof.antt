@@ -1,27 +1,28 @@
 -- `writer::write` answers as the model's call does, refusal by refusal, and writes a good frame that has room. Assumes nothing.
-use mathlib.Core.Path.{_≡_, refl, sym, ap, _∙_}
+use mathlib.Core.Path.{_≡_, refl, sym, ap, ap₂, _∙_}
 use mathlib.Core.Bool.{Bool, true, false}
 use mathlib.Core.List.{List}
-use Prim.Native.Nat.{ℕ, _≤_, _*_}
+use Prim.Native.Nat.{ℕ, _≤_, _+_, _*_}
 use native.Mathlib.Omega.{arith}
 use lib.IntN.{ℤ}
 use lib.ListN.{length}
 use borrow.Author.Tests.{eq-eqb, ne-eqb, not-true, not-false}
 use Rattle.model.specs.Panel.{base, perSlot, records}
 use Rattle.model.specs.Frame.{rowsFrom, sized, valuesGood}
-use Rattle.model.specs.States.{writerGood}
 use Rattle.model.specs.Calls as C
-use Rattle.model.specs.Calls.{needOf, roomFor}
+use Rattle.model.specs.Calls.{roomFor}
+use Rattle.model.specs.Pointing.{pointerGood, pointerNeed}
 use Rattle.panel.specs.Seen.{panelSeen}
 use Rattle.panel.proofs.Tables.{unmapped}
 use Rattle.plan.specs.declared.Planned.{Planned}
 use Rattle.plan.proofs.Turn.{good-plain}
+use Rattle.pointer.specs.declared.Moved.{Moved}
 use Rattle.tally.proofs.Told.{others-told, events-told}
 use Rattle.writer.specs.declared.WriterState.{WriterState}
-use Rattle.writer.specs.Seen.{seen, writtenFrom}
+use Rattle.writer.specs.Seen.{seen, writtenFrom, takenBy}
 use Rattle.writer.proofs.States.{good-setup, good-size, good-current, good-counter, good-rest}
 use Rattle.writer.proofs.Outcome.{answer-by, buffer-by, refusal-is}
-use Rattle.writer.proofs.Accepted.{GoodFrame, Known, past-end, too-few, quiet, fits, sent}
+use Rattle.writer.proofs.Accepted.{GoodFrame, PlannedFrame, Known, moving, refused-by, quiet, fits-touch, fits-slots, fits-end, same-size, sent}
 use borrow.Author.Needs.{needs}
 use Rattle.writer.proofs.write.Statement.{statement}
 use Rattle.writer.proofs.write.Tie as tie
@@ -35,7 +36,7 @@ abbrev fr : tie.Start → List ℤ
 fr s = s .args .frame .now
 
 abbrev need : tie.Start → ℕ
-need s = needOf (panelSeen (st s .setup)) (seen (st s) .writer) (fr s)
+need s = pointerNeed base (seen (st s)) (fr s)
 
 abbrev room : tie.Start → Bool
 room s = roomFor (need s) (s .args .at) (length (s .args .buf .now))
@@ -49,13 +50,13 @@ values s = valuesGood (panelSeen (st s .setup)) (fr s)
 abbrev start : tie.After-state-ok → tie.Start
 start k = k .before .before .before
 
-state-good : (c : tie.Else1) → writerGood base (seen (st (start (c .before)))) ≡ true
+state-good : (c : tie.Else1) → pointerGood base (seen (st (start (c .before)))) ≡ true
 state-good c = sym (c .before .state-ok .ensures) ∙ not-false (c .before .state-ok .result) (c .if1 .left)
 
 frame-whole : (c : tie.Else2) → whole (start (c .before .before .before)) ≡ true
 frame-whole c = eq-eqb _ _ (c .if2 .left)
 
--- ---- a good frame: its plan, and what is counted of it
+-- ---- a good frame: its plan, what moved, and what is counted of it
 
 -- Where all tests but that of the room have passed.
 abbrev judged : tie.Else3 → tie.Start
@@ -68,7 +69,7 @@ good c =
     record { state = state-good (k .before .before .before); size = k .before .if2 .left; values = v }
 
 abbrev passed : tie.After-plan-frame → tie.Else3
-passed p = p .before .before .before
+passed p = p .before .before
 
 abbrev given : tie.After-plan-frame → tie.Start
 given p = judged (passed p)
@@ -82,43 +83,45 @@ held-full s = search (needs, unmapped)
 made-full : (p : tie.After-plan-frame) → length (made p .table) ≡ records
 made-full p = search (needs, unmapped)
 
-abbrev plan : tie.After-event-count → tie.After-plan-frame
-plan t = t .before .before .before .before
+framed : (p : tie.After-plan-frame) → PlannedFrame (st (given p)) (fr (given p)) (made p)
+framed p = record { good = good (passed p); plans = p .plan-frame .ensures; held = held-full (given p); made = made-full p }
 
-abbrev all : tie.After-event-count → tie.Start
+abbrev moved-at : tie.After-emulated → tie.After-move-on
+moved-at t = t .before .before .before .before .before
+
+abbrev plan : tie.After-emulated → tie.After-plan-frame
+plan t = moved-at t .before .before .before .before .before
+
+abbrev all : tie.After-emulated → tie.Start
 all t = given (plan t)
 
-known : (t : tie.After-event-count) → Known (st (all t)) (fr (all t)) (made (plan t)) (t .before .without-current .result) (t .event-count .result)
+abbrev moved : tie.After-emulated → Moved
+moved t = moved-at t .move-on .result
+
+known : (t : tie.After-emulated)
+    → Known (st (all t)) (fr (all t)) (made (plan t)) (moved t) (t .before .before .without-current .result) (t .before .event-count .result + t .emulated .result)
 known t =
     let s = st (all t) in
     let p = made (plan t) in
     let tells = plan t .plan-frame .ensures .tells in
-    let others = t .before .without-current .ensures ∙ others-told (s .table) (p .table) (s .current .0) (s .setup .n) (p .changes) tells in
-    let events = events-told (s .table) (p .table) (s .current .0) (s .setup .n) (p .changes) tells (t .before .without-current .result) others in
+    let others = t .before .before .without-current .ensures ∙ others-told (s .table) (p .table) (s .current .0) (s .setup .n) (p .changes) tells in
+    let events = events-told (s .table) (p .table) (s .current .0) (s .setup .n) (p .changes) tells (t .before .before .without-current .result) others in
     record {
-      good = good (passed (plan t));
-      plans = plan t .plan-frame .ensures;
+      frame = framed (plan t);
+      moves = moved-at t .move-on .ensures;
       opened = others;
-      count = t .event-count .ensures .0 ∙ events;
-      held = held-full (all t);
-      made = made-full (plan t);
+      count = ap₂ (λ a b. a + b) (t .before .event-count .ensures .0 ∙ events) (t .emulated .ensures .0);
     }
 
 -- ---- where the tests of the room and of the count are known
 
--- There is such a position, or it is past the end.
-abbrev inside : tie.Else4 → tie.After-event-count
-inside c = c .before
+-- There is room.
+roomy : (e : tie.Else4) → (let t = e .before .before in roomFor (8 * (t .before .event-count .result + t .emulated .result)) (all t .args .at) (length (all t .args .buf .now)) ≡ true)
+roomy e = sym (e .before .has-room .ensures) ∙ not-false (e .before .has-room .result) (e .if4 .left)
 
-abbrev past : tie.Then4 → tie.After-event-count
-past c = c .before
-
--- There is room, and nothing changed, or something did.
-abbrev nothing : tie.Then6 → tie.Else5
-nothing c = c .before
-
-abbrev something : tie.Else6 → tie.Else5
-something c = c .before
+-- And something changed.
+abbrev emulated-at : tie.Else5 → tie.After-emulated
+emulated-at n = n .before .before .before
 
 -- ---- the needs
 
@@ -133,7 +136,7 @@ returns c =
     let k = c .before .before in
     let s = start k in
     let buf = s .args .buf .now in
-    let g : writerGood base (seen (st s)) ≡ false = sym (k .state-ok .ensures) ∙ not-true (k .state-ok .result) (c .before .if1 .taken) in
+    let g : pointerGood base (seen (st s)) ≡ false = sym (k .state-ok .ensures) ∙ not-true (k .state-ok .result) (c .before .if1 .taken) in
     let answer = answer-by base (seen (st s)) (fr s) (s .args .at) buf false (whole s) (values s) (room s) g refl refl refl in (
       c .refused .ensures ∙ refusal-is C.state (st s) (need s) ∙ ap writtenFrom (sym answer),
       sym (buffer-by base (seen (st s)) (fr s) (s .args .at) buf false (whole s) (values s) (room s) g refl refl refl),
@@ -182,77 +185,111 @@ returns-3 c =
 
 plan-frame-requires : tie.Need-plan-frame-requires
 plan-frame-requires c κs =
-    let e = c .before .before in
+    let e = c .before in
     let s = judged e in
     let g = good e .state in
     (good-size (st s) g, good-counter (st s) g, good e .size, good-plain (st s .setup) (rowsFrom perSlot (st s .setup .n) (fr s) 0) (good e .values), good-rest (st s) g)
 
+move-on-requires : tie.Need-move-on-requires
+move-on-requires c κs = moving (framed (c .before .before .before .before))
+
 without-current-requires : tie.Need-without-current-requires
 without-current-requires c κs =
-    let p = c .before .before in
+    let p = c .before .before .before .before .before .before .before in
     good-current (st (given p)) (good (passed p) .state)
 
 event-count-requires : tie.Need-event-count-requires
 event-count-requires c κs =
-    let p = c .before .before .before in
+    let p = c .before .before .before .before .before .before .before .before in
     omega (arith, p .plan-frame .ensures .tells .before .numbers, good-size (st (given p)) (good (passed p) .state))
+
+emulated-requires : tie.Need-emulated-requires
+emulated-requires c κs = search needs
+
+add-events : tie.Need-add-events
+add-events c = search needs
 
 mul-need : tie.Need-mul-need
 mul-need c = search needs
+
+has-room-requires : tie.Need-has-room-requires
+has-room-requires c κs = search needs
 
 refused-requires-4 : tie.Need-refused-requires-4
 refused-requires-4 c κs = search needs
 
 returns-4 : tie.Need-returns-4
 returns-4 c =
-    let t = past (c .before) in
-    let r = past-end (known t) (all t .args .at) (all t .args .buf .now) (c .before .if4 .taken) in
+    let h = c .before .before in
+    let t = h .before in
+    let none = sym (h .has-room .ensures) ∙ not-true (h .has-room .result) (c .before .if4 .taken) in
+    let r = refused-by (known t) (all t .args .at) (all t .args .buf .now) none in
     (c .refused4 .ensures ∙ r .0, r .1)
-
-sub-if5 : tie.Need-sub-if5
-sub-if5 c = search needs
-
-refused-requires-5 : tie.Need-refused-requires-5
-refused-requires-5 c κs = search needs
-
-returns-5 : tie.Need-returns-5
-returns-5 c =
-    let t = inside (c .before .before) in
-    let r = too-few (known t) (all t .args .at) (all t .args .buf .now) (c .before .if5 .taken) in
-    (c .refused5 .ensures ∙ r .0, r .1)
 
 taken-requires : tie.Need-taken-requires
 taken-requires c κs = search needs
 
-returns-6 : tie.Need-returns-6
-returns-6 c =
-    let i = nothing (c .before) in
-    let t = inside (i .before) in
-    let r = quiet (known t) (all t .args .at) (all t .args .buf .now) (i .before .if4 .left) (i .if5 .left) (c .before .if6 .taken) in
+returns-5 : tie.Need-returns-5
+returns-5 c =
+    let e = c .before .before in
+    let t = e .before .before in
+    let r = quiet (known t) (all t .args .at) (all t .args .buf .now) (roomy e) (c .before .if5 .taken) in
     (c .taken .ensures ∙ r .0, r .1)
 
-send-frame-requires : tie.Need-send-frame-requires
-send-frame-requires c κs =
-    let i = something (c .before) in
-    let t = inside (i .before) in
-    let room = fits (known t) (all t .args .at) (all t .args .buf .now) (i .before .if4 .left) (i .if5 .left) (c .before .if6 .left) in
-    (good-current (st (all t)) (known t .good .state), room)
+send-touch-requires : tie.Need-send-touch-requires
+send-touch-requires c κs =
+    let n = c .before in
+    let t = emulated-at n in
+    fits-touch (known t) (all t .args .at) (all t .args .buf .now) (roomy (n .before)) (n .if5 .left)
+
+send-slots-requires : tie.Need-send-slots-requires
+send-slots-requires c κs =
+    let o = c .before .before .before in
+    let n = o .before .before in
+    let t = emulated-at n in
+    let touch = o .send-touch in (
+      good-current (st (all t)) (good (passed (plan t)) .state),
+      fits-slots (known t) (all t .args .at) (all t .args .buf .now) (roomy (n .before)) (n .if5 .left) (touch .result) (touch .last .0) (touch .ensures .0) (touch .ensures .1),
+    )
+
+send-end-requires : tie.Need-send-end-requires
+send-end-requires c κs =
+    let l = c .before .before .before in
+    let o = l .before .before .before .before in
+    let n = o .before .before in
+    let t = emulated-at n in
+    let touch = o .send-touch in
+    fits-end (known t) (all t .args .at) (all t .args .buf .now) (roomy (n .before)) (n .if5 .left) (touch .result) (touch .last .0) (touch .ensures .0) (touch .ensures .1)
+    (l .send-slots .result) (l .send-slots .last .0) (l .send-slots .ensures)
+
+with-requires : tie.Need-with-requires
+with-requires c κs = search needs
 
 taken-requires-2 : tie.Need-taken-requires-2
 taken-requires-2 c κs = search needs
 
 same-length : tie.Need-same-length
-same-length c = search needs
+same-length c =
+    let e = c .before .before .before .before .before in
+    let l = e .before .before .before .before in
+    let o = l .before .before .before .before in
+    let n = o .before .before in
+    let t = emulated-at n in
+    let touch = o .send-touch in
+    same-size (known t) (all t .args .at) (all t .args .buf .now) (roomy (n .before)) (n .if5 .left) (touch .result) (touch .last .0) (touch .ensures .0) (touch .ensures .1)
+    (l .send-slots .result) (l .send-slots .last .0) (l .send-slots .ensures) (e .send-end .last .0) (e .send-end .ensures)
 
-returns-7 : tie.Need-returns-7
-returns-7 c =
-    let o = c .before .before .before in
-    let e = o .before .before in
-    let i = something e in
-    let t = inside (i .before) in
-    let all-sent = sent (known t) (all t .args .at) (all t .args .buf .now) (i .before .if4 .left) (i .if5 .left) (e .if6 .left) in
-    let r = all-sent (o .send-frame .result .0) (o .send-frame .last .0) (o .send-frame .ensures .0) (o .send-frame .ensures .1) in
-    (c .taken2 .ensures ∙ r .0, r .1)
+returns-6 : tie.Need-returns-6
+returns-6 c =
+    let e = c .before .before .before .before .before in
+    let l = e .before .before .before .before in
+    let o = l .before .before .before .before in
+    let n = o .before .before in
+    let t = emulated-at n in
+    let touch = o .send-touch in
+    let r = sent (known t) (all t .args .at) (all t .args .buf .now) (roomy (n .before)) (n .if5 .left) (touch .result) (touch .last .0) (touch .ensures .0) (touch .ensures .1)
+    (l .send-slots .result) (l .send-slots .last .0) (l .send-slots .ensures) (e .send-end .last .0) (e .send-end .ensures) in
+    (c .taken2 .ensures ∙ ap (λ w. takenBy (made (plan t) .table) (moved t) w (t .before .event-count .result + t .emulated .result) (made (plan t) .changes .slots)) (c .before .with .ensures) ∙ r .0, r .1)
 
 pub write-spec : {M : Type 1} → statement M
 write-spec =
@@ -268,17 +305,21 @@ write-spec =
     refused-requires-3
     returns-3
     plan-frame-requires
+    move-on-requires
     without-current-requires
     event-count-requires
+    emulated-requires
+    add-events
     mul-need
+    has-room-requires
     refused-requires-4
     returns-4
-    sub-if5
-    refused-requires-5
-    returns-5
     taken-requires
-    returns-6
-    send-frame-requires
+    returns-5
+    send-touch-requires
+    send-slots-requires
+    send-end-requires
+    with-requires
     taken-requires-2
     same-length
-    returns-7)
+    returns-6)

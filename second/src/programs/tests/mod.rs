@@ -171,7 +171,7 @@ fn a_failed_write_is_said_and_ends_the_program() {
 fn words_that_nobody_takes_count_as_a_failure_and_leave_no_hole() {
     let bytes = encoded("SETUP 1 9 9 9 9 9\nFRAME 1 0 0 0 0 0\nFRAME 1 0 0 1 0 0\n");
     let mut out = Vec::new();
-    assert_eq!(write_frames(&bytes[..], &mut out, Full { taken: Vec::new(), room: 5 }), Failed);
+    assert_eq!(write_frames(&bytes[..], &mut out, Full { taken: Vec::new(), room: 5 }, false), Failed);
     assert_eq!(decoded(&out, false), "SETUP 1 9 9 9 9 9\nID 0\nPRESSURE 1\nREPORT\n");
 }
 
@@ -207,13 +207,13 @@ fn long_inputs_are_answered_as_in_one_piece() {
 #[test]
 fn noise_is_answered_and_tries_every_word_of_the_page() {
     let mut seen = String::new();
-    for program in NAMES {
+    for program in NAMES.into_iter().chain([WITH_POINTER]) {
         for index in 0..400 {
             let bytes = noise(program, 1, index).unwrap();
             let whole = answers(program, &bytes, usize::MAX, false);
             assert!(answers(program, &bytes, 11, false) == whole, "{program} {index}");
             seen += &whole.2;
-            if !["write_frames", "record", "write_force", "write_commands"].contains(&program) {
+            if !["write_frames", WITH_POINTER, "record", "write_force", "write_commands"].contains(&program) {
                 seen += &String::from_utf8(whole.1).unwrap();
             }
         }

@@ -1,0 +1,54 @@
+-- What the writer asks of ranks and tables, and what it is answered. Assumes nothing.
+use mathlib.Core.Path.{_≡_}
+use mathlib.Core.Bool.{Bool, true, false}
+use mathlib.Core.List.{List}
+use Prim.Native.Nat.{ℕ, _≤_}
+use lib.Dec.{T}
+use lib.IntN.{ℤ}
+use lib.ListN.{length}
+use Rattle.model.specs.Panel.{records}
+use Rattle.model.specs.Table.{ids}
+use Rattle.model.specs.Ranks.{goodRanks, ranksAfter}
+use Rattle.model.specs.Pointer.{pointed}
+use Rattle.panel.specs.declared.Slot.{Slot}
+use Rattle.panel.specs.Seen.{tableOf, unusedAll, sameFrom}
+use Rattle.pointer.specs.declared.Pointer.{Pointer}
+use Rattle.pointer.specs.declared.Moved.{Moved}
+use Rattle.pointer.specs.Seen.{pointerOf, fatesBy}
+
+-- A table whose records past the first n were never used.
+pub record Unused (n : ℕ) (t : List Slot) : Type 0 where
+  pub few : n ≤ records
+  pub rest : sameFrom n t unusedAll
+
+-- The ids of a table beside good ranks.
+pub record Ranked (t : List Slot) (l : List ℤ) (rs : List ℕ) : Type 0 where
+  pub own : l ≡ ids (tableOf t)
+  pub whole : length l ≡ records
+  pub each : length rs ≡ records
+  pub good : T (goodRanks l rs)
+
+-- The ranks after a frame, by the ids of the tables before it and after it.
+abbrev pub ranksBy : List Slot → List Slot → List ℕ → List ℕ
+ranksBy old new rs = ranksAfter (fatesBy (ids (tableOf old)) (ids (tableOf new))) rs
+
+-- Ranks are good before a frame, and those after it will be.
+pub record Moving (n : ℕ) (old new : List Slot) (rs : List ℕ) : Type 0 where
+  pub held : Unused n old
+  pub made : Unused n new
+  pub before : T (goodRanks (ids (tableOf old)) rs)
+  pub after : T (goodRanks (ids (tableOf new)) (ranksBy old new rs))
+
+-- The answer r holds these ranks, and the numbers that they and the new table give where q was told last.
+pub record MovesTo (old new : List Slot) (rs : List ℕ) (q : Pointer) (r : Moved) : Type 0 where
+  pub ranks : r .ranks ≡ ranksBy old new rs
+  pub told : pointerOf (r .told) ≡ pointed (tableOf new) (r .ranks) (pointerOf q)
+
+-- By the option: off, nothing is asked, and nothing moves.
+abbrev pub MovingIf : Bool → ℕ → List Slot → List Slot → List ℕ → Type 0
+MovingIf true n old new rs = Moving n old new rs
+MovingIf false n old new rs = Unit {0}
+
+abbrev pub MovesBy : Bool → List Slot → List Slot → List ℕ → Pointer → Moved → Type 0
+MovesBy true old new rs q r = MovesTo old new rs q r
+MovesBy false old new rs q r = r ≡ record { ranks = rs; told = q }

@@ -1,0 +1,418 @@
+// What an old display is told of a table (document 02's K6): ranks by beginning, the numbers of the display, and the events that tell them. The writer stands on it.
+ghost use mathlib.Core.Path.{_≡_};
+ghost use mathlib.Core.Bool.{true, false, _&&_, _||_, cond};
+ghost use mathlib.Core.List.{[], _++_};
+ghost use Prim.Native.Nat.{_≤_, _<_, suc};
+ghost use lib.Dec.{T, eqb, ltb};
+ghost use lib.IntN.{pos};
+ghost use lib.ListN.{length, getD};
+ghost use Rattle.model.specs.Panel.{records};
+ghost use Rattle.model.specs.Numbers.{eqZ};
+ghost use Rattle.model.specs.Table.{ids as idsIn, live};
+ghost use Rattle.model.specs.Frame.{goesOn};
+ghost use Rattle.model.specs.Ranks.{oneMoreIf, liveCount, goodRanks, ages, ranksAfter};
+ghost use Rattle.model.specs.Sending.{oneUnless};
+ghost use Rattle.model.specs.Pointer.{unmoved, touchOf, toolOf, oldestSlot, pointed as shownBy, eqPointer, emulated as toldBy};
+ghost use Rattle.model.specs.Pointing.{goodPointing, zeros as allZeros};
+ghost use Rattle.panel.specs.Seen.{tableOf, panelSeen};
+ghost use Rattle.pointer.specs.Seen.{pointerOf, pointingOf, fateBy, fatesBy};
+ghost use Rattle.pointer.specs.Marks.{Marks, marked, Sums, Told, ageBy};
+ghost use Rattle.pointer.specs.Moved.{Unused, Ranked, Moving, MovesTo, MovingIf, MovesBy};
+use common::TrackingId;
+use panel::RECORDS;
+use panel::Setup;
+use panel::Slot;
+
+// What a display was told last: ABS_X and ABS_Y, the code of the tool that is 1 (0 for none), and BTN_TOUCH.
+pub struct Pointer {
+    pub x: u32,
+    pub y: u32,
+    pub tool: u16,
+    pub touch: u8,
+}
+
+// The age of a contact that begins: past every rank.
+const BEGINNING: usize = RECORDS;
+
+// How many ages there are.
+const SUMS: usize = BEGINNING + 1;
+
+fn wide(x: u8) -> usize
+    ensures { λ r. ⌜ r ≡ x ⌝ }
+{
+    x as usize
+}
+
+// ---- ids
+
+fn lives(id: i32) -> bool
+    ensures { λ r. ⌜ r ≡ live id ⌝ }
+{
+    !common::same(id, TrackingId::UNUSED)
+}
+
+// The ids of a table by themselves: they are lent on, where a table would be copied. The walk ends at n: one of a known end is laid out by the compiler, which then copies every table that it can reach slot by slot.
+fn ids_of(n: usize, t: [Slot; RECORDS]) -> [i32; RECORDS]
+    requires { ⌜ Unused n t ⌝ }
+    ensures { λ r. ⌜ r ≡ idsIn (tableOf t) ⌝ }
+{
+    let mut l = [TrackingId::UNUSED; RECORDS];
+    let mut i: usize = 0;
+    while i < n {
+        let s = t[i];
+        let q = s.id;
+        let v = q.0;
+        l[i] = v;
+        i += 1;
+    }
+    l
+}
+
+fn live_count(ids: &[i32]) -> usize
+    requires { ⌜ length (now ids) ≡ records ⌝ }
+    ensures { λ r. ⌜ (r ≡ liveCount (now (ids .entry))) × (r ≤ records) ⌝ }
+{
+    let mut count: usize = 0;
+    let mut i: usize = 0;
+    while i < RECORDS {
+        let id = ids[i];
+        i += 1;
+        if lives(id) {
+            count += 1;
+        }
+    }
+    count
+}
+
+// ---- ranks
+
+// The least number above both `top` and a rank: one more than the rank where that is not below it.
+fn higher(top: usize, r: usize) -> usize
+    requires { ⌜ (top ≤ records) × (r < records) ⌝ }
+    ensures { λ z. ⌜ (z ≡ cond (ltb r top) top (suc r)) × (z ≤ records) ⌝ }
+{
+    if r < top {
+        return top;
+    }
+    r + 1
+}
+
+fn all_marked(m: &[u8], top: usize) -> bool
+    requires { ⌜ (length (now m) ≡ records) × (top ≤ records) ⌝ }
+    ensures { λ r. ⌜ r ≡ marked top (now (m .entry)) ⌝ }
+{
+    let mut j: usize = 0;
+    while j < top {
+        if m[j] != 1 {
+            return false;
+        }
+        j += 1;
+    }
+    true
+}
+
+// Whether ranks are as they should be beside these ids: from 0 without gaps where a contact is live, 0 elsewhere.
+fn ranks_good(ids: &[i32], ranks: &[u8]) -> bool
+    requires { ⌜ (length (now ids) ≡ records) × (length (now ranks) ≡ records) ⌝ }
+    ensures { λ r. ⌜ r ≡ goodRanks (now (ids .entry)) (now (ranks .entry)) ⌝ }
+{
+    let mut held = [0u8; RECORDS];
+    let mut top: usize = 0;
+    let mut i: usize = 0;
+    while i < RECORDS {
+        let id = ids[i];
+        let r = wide(ranks[i]);
+        i += 1;
+        if lives(id) {
+            if RECORDS <= r {
+                return false;
+            }
+            held[r] = 1;
+            top = higher(top, r);
+        } else {
+            if r != 0 {
+                return false;
+            }
+        }
+    }
+    all_marked(&held, top)
+}
+
+// The slot whose contact began first, the lowest of several; the number of records where none is live.
+fn oldest_slot(ids: &[i32], ranks: &[u8]) -> usize
+    requires { ⌜ (length (now ids) ≡ records) × (length (now ranks) ≡ records) ⌝ }
+    ensures { λ r. ⌜ r ≡ oldestSlot (now (ids .entry)) (now (ranks .entry)) ⌝ }
+{
+    let mut i: usize = 0;
+    while i < RECORDS {
+        if lives(ids[i]) & (ranks[i] == 0) {
+            return i;
+        }
+        i += 1;
+    }
+    i
+}
+
+fn goes_on(was: i32, is: i32) -> bool
+    ensures { λ r. ⌜ r ≡ (live is && eqZ was is) ⌝ }
+{
+    lives(is) & common::same(was, is)
+}
+
+// Flags for the ranks of the contacts that go on.
+fn marks_of(old: &[i32], new: &[i32], ranks: &[u8]) -> [u8; RECORDS]
+    requires { ⌜ Told (now old) (now new) (now ranks) ⌝ }
+    ensures { λ r. ⌜ Marks r (ages records (fatesBy (now (old .entry)) (now (new .entry))) (now (ranks .entry))) ⌝ }
+{
+    let mut m = [0u8; RECORDS];
+    let mut i: usize = 0;
+    while i < RECORDS {
+        let was = old[i];
+        let is = new[i];
+        let r = wide(ranks[i]);
+        i += 1;
+        if goes_on(was, is) {
+            m[r] = 1;
+        }
+    }
+    m
+}
+
+fn one_more(flag: u8, n: u8) -> u8
+    requires { ⌜ n < 255 ⌝ }
+    ensures { λ r. ⌜ r ≡ oneMoreIf (eqb flag 1) n ⌝ }
+{
+    if flag == 1 {
+        return n + 1;
+    }
+    n
+}
+
+// Below each number up to RECORDS, how many flags are set.
+fn sums_of(m: &[u8]) -> [u8; SUMS]
+    requires { ⌜ length (now m) ≡ records ⌝ }
+    ensures { λ r. ⌜ Sums (now (m .entry)) r ⌝ }
+{
+    let mut s = [0u8; SUMS];
+    let mut j: usize = 0;
+    while j < RECORDS {
+        s[j + 1] = one_more(m[j], s[j]);
+        j += 1;
+    }
+    s
+}
+
+// The age by which a record's new rank is counted.
+fn age(was: i32, is: i32, rank: u8) -> usize
+    ensures { λ r. ⌜ r ≡ ageBy (fateBy was is) rank ⌝ }
+{
+    if !lives(is) {
+        return 0;
+    }
+    if common::same(was, is) {
+        return wide(rank);
+    }
+    BEGINNING
+}
+
+// The ranks after a frame, by the ids before it and after it: those that go on close their gaps, and all that begin come after them.
+fn ranks_after(old: &[i32], new: &[i32], ranks: &[u8]) -> [u8; RECORDS]
+    requires { ⌜ Told (now old) (now new) (now ranks) × T (goodRanks (now old) (now ranks)) ⌝ }
+    ensures { λ r. ⌜ r ≡ ranksAfter (fatesBy (now (old .entry)) (now (new .entry))) (now (ranks .entry)) ⌝ }
+{
+    let m = marks_of(old, new, ranks);
+    let below = sums_of(&m);
+    let mut l = [0u8; RECORDS];
+    let mut i: usize = 0;
+    while i < RECORDS {
+        let a = age(old[i], new[i], ranks[i]);
+        l[i] = below[a];
+        i += 1;
+    }
+    l
+}
+
+// ---- the display's numbers
+
+fn touch_of(live: usize) -> u8
+    ensures { λ r. ⌜ r ≡ touchOf live ⌝ }
+{
+    if live == 0 {
+        return 0;
+    }
+    1
+}
+
+// The tool's code by how many contacts are live: one for each number up to four, and one for five or more.
+fn tool_of(live: usize) -> u16
+    ensures { λ r. ⌜ r ≡ toolOf live ⌝ }
+{
+    if live == 0 {
+        return 0;
+    }
+    if live == 1 {
+        return records::FINGER;
+    }
+    if live == 2 {
+        return records::DOUBLETAP;
+    }
+    if live == 3 {
+        return records::TRIPLETAP;
+    }
+    if live == 4 {
+        return records::QUADTAP;
+    }
+    records::QUINTTAP
+}
+
+// What a display should see of a table, its ids and its good ranks. While no contact is live X and Y keep still.
+fn pointed(t: [Slot; RECORDS], ids: &[i32], ranks: &[u8], told: Pointer) -> Pointer
+    requires { ⌜ Ranked t (now ids) (now ranks) ⌝ }
+    ensures { λ r. ⌜ pointerOf r ≡ shownBy (tableOf t) (now (ranks .entry)) (pointerOf told) ⌝ }
+{
+    let live = live_count(ids);
+    if live == 0 {
+        return Pointer {
+            x: told.x,
+            y: told.y,
+            tool: 0,
+            touch: 0,
+        };
+    }
+    let k = oldest_slot(ids, ranks);
+    let oldest = t[k];
+    Pointer {
+        x: oldest.x,
+        y: oldest.y,
+        tool: tool_of(live),
+        touch: touch_of(live),
+    }
+}
+
+fn pointers_same(a: Pointer, b: Pointer) -> bool
+    ensures { λ r. ⌜ r ≡ eqPointer (pointerOf a) (pointerOf b) ⌝ }
+{
+    (a.touch == b.touch) & (a.tool == b.tool) & (a.x == b.x) & (a.y == b.y)
+}
+
+// ---- what the writer calls
+
+// All are looked at, found or not, as in `plan::absent`.
+fn all_zero(ranks: &[u8]) -> bool
+    requires { ⌜ length (now ranks) ≡ records ⌝ }
+    ensures { λ r. ⌜ r ≡ allZeros records (now (ranks .entry)) ⌝ }
+{
+    let mut some = false;
+    let mut i: usize = 0;
+    while i < RECORDS {
+        some = some | (ranks[i] != 0);
+        i += 1;
+    }
+    !some
+}
+
+// With the option off nothing is ranked, and nothing was told.
+fn clear(ranks: [u8; RECORDS], told: Pointer) -> bool
+    ensures { λ r. ⌜ r ≡ (allZeros records ranks && eqPointer (pointerOf told) unmoved) ⌝ }
+{
+    let nothing = Pointer {
+        x: 0,
+        y: 0,
+        tool: 0,
+        touch: 0,
+    };
+    all_zero(&ranks) & pointers_same(told, nothing)
+}
+
+// With the option on: good ranks, the numbers that they and the table give, and X and Y in range also while no contact is live.
+fn apt(setup: Setup, t: [Slot; RECORDS], ranks: [u8; RECORDS], told: Pointer) -> bool
+    requires { ⌜ Unused (setup .n) t ⌝ }
+    ensures { λ r. ⌜ r ≡ goodPointing true (panelSeen setup) (tableOf t) (pointingOf ranks told) ⌝ }
+{
+    let ids = ids_of(setup.n, t);
+    if !ranks_good(&ids, &ranks) {
+        return false;
+    }
+    let p = pointed(t, &ids, &ranks, told);
+    if !pointers_same(told, p) {
+        return false;
+    }
+    (told.x <= setup.x) & (told.y <= setup.y)
+}
+
+// Whether ranks and the numbers that were told are well formed beside a table.
+pub fn pointing_ok(
+    on: bool,
+    setup: Setup,
+    t: [Slot; RECORDS],
+    ranks: [u8; RECORDS],
+    told: Pointer,
+) -> bool
+    requires { ⌜ Unused (setup .n) t ⌝ }
+    ensures { λ r. ⌜ r ≡ goodPointing on (panelSeen setup) (tableOf t) (pointingOf ranks told) ⌝ }
+{
+    if on {
+        return apt(setup, t, ranks, told);
+    }
+    clear(ranks, told)
+}
+
+pub struct Moved {
+    pub ranks: [u8; RECORDS],
+    pub told: Pointer,
+}
+
+// Ranks after a frame, and what the display is to be told then.
+fn moves(
+    n: usize,
+    old: [Slot; RECORDS],
+    new: [Slot; RECORDS],
+    ranks: [u8; RECORDS],
+    told: Pointer,
+) -> Moved
+    requires { ⌜ Moving n old new ranks ⌝ }
+    ensures { λ r. ⌜ MovesTo old new ranks told r ⌝ }
+{
+    let was = ids_of(n, old);
+    let is = ids_of(n, new);
+    let after = ranks_after(&was, &is, &ranks);
+    let told = pointed(new, &is, &after, told);
+    Moved { ranks: after, told }
+}
+
+// The same by the option: off, nothing moves.
+pub fn move_on(
+    on: bool,
+    n: usize,
+    old: [Slot; RECORDS],
+    new: [Slot; RECORDS],
+    ranks: [u8; RECORDS],
+    told: Pointer,
+) -> Moved
+    requires { ⌜ MovingIf on n old new ranks ⌝ }
+    ensures { λ r. ⌜ MovesBy on old new ranks told r ⌝ }
+{
+    if on {
+        return moves(n, old, new, ranks, told);
+    }
+    Moved { ranks, told }
+}
+
+fn unlike(same: bool) -> usize
+    ensures { λ r. ⌜ (r ≤ 1) × (r ≡ oneUnless same) ⌝ }
+{
+    if same {
+        return 0;
+    }
+    1
+}
+
+// How many events tell a display that was told q that it is z now.
+pub fn emulated(q: Pointer, z: Pointer) -> usize
+    ensures { λ r. ⌜ (r ≡ length (toldBy (pointerOf q) (pointerOf z))) × (r ≤ 5) ⌝ }
+{
+    let same = q.tool == z.tool;
+    unlike(q.touch == z.touch)
+        + ((unlike(same | (q.tool == 0)) + unlike(same | (z.tool == 0)))
+            + (unlike(q.x == z.x) + unlike(q.y == z.y)))
+}
