@@ -7,6 +7,7 @@ ghost use Rattle.model.specs.Panel.{base, setupGood, perSlot, records};
 ghost use Rattle.model.specs.Table.{numbersOf, ids, unheld, goodSlot, eqSlot, eqTable, idsDiffer as idsApart, goodRecords};
 ghost use Rattle.model.specs.Frame.{numbersFrom};
 ghost use Rattle.panel.specs.Seen.{rowOf, slotOf, tableOf, setupOf, fieldsOf, axesOf, unused, unusedAll, sameFrom, zeros};
+ghost use Rattle.panel.specs.Judged.{JudgedBy};
 use common::TrackingId;
 
 // How many slot records a table holds.
@@ -246,47 +247,64 @@ pub fn ids_differ(n: usize, t: [Slot; RECORDS]) -> bool
     true
 }
 
-// Whether the panel's slots are good and their live ids differ, in one walk: the tests of `slots_ok` and of `ids_differ` at each slot.
-fn slots_good(setup: Setup, t: [Slot; RECORDS]) -> bool
-    requires { ⌜ (setup .n ≤ records) × sameFrom (setup .n) t unusedAll ⌝ }
-    ensures { λ r. ⌜ r ≡ (goodRecords (fieldsOf setup) (setup .n) (tableOf (take (setup .n) t)) && idsApart (tableOf t)) ⌝ }
+// What a walk over a table tells: whether it is good but for its ids, and whether no two live ids fall on one of 64 bits.
+struct Judged {
+    good: bool,
+    apart: bool,
+}
+
+// Two loops in one function, and no other is handed the table: it would be copied for each (docs/PERFORMANCE.md).
+fn records_judged(setup: Setup, t: [Slot; RECORDS]) -> Judged
+    requires { ⌜ setup .n ≤ records ⌝ }
+    ensures { λ r. ⌜ JudgedBy setup t r ⌝ }
 {
     let n = setup.n;
+    let mut past = n;
+    while past < RECORDS {
+        if !slot_unused(t[past]) {
+            return Judged {
+                good: false,
+                apart: false,
+            };
+        }
+        past += 1;
+    }
     let mut held: u64 = 0;
+    let mut apart = true;
     let mut j: usize = 0;
     while j < n {
-        let at = j;
-        let slot = t[at];
+        let slot = t[j];
         j += 1;
         if !slot_ok(setup, slot) {
-            return false;
+            return Judged {
+                good: false,
+                apart: false,
+            };
         }
         let q = slot.id;
         let id = q.0;
         if !common::same(id, -1) {
             let mark = 1u64 << (common::nat_of(id) % 64);
-            if held & mark == 0 {
-                held = held | mark;
-            } else {
-                if !unheld_before(t, at, id) {
-                    return false;
-                }
-            }
+            apart = apart & (held & mark == 0);
+            held = held | mark;
         }
     }
-    true
+    Judged { good: true, apart }
 }
 
-// Whether a table is as a state's should be: good slots with live ids that differ, and unused records past them.
+// Whether a table is as a state's should be: good slots with live ids that differ, and unused records past them. Ids are compared only where two fall on one bit.
 pub fn table_good(setup: Setup, t: [Slot; RECORDS]) -> bool
     requires { ⌜ setup .n ≤ records ⌝ }
     ensures { λ r. ⌜ r ≡ (goodRecords (fieldsOf setup) (setup .n) (tableOf t) && idsApart (tableOf t)) ⌝ }
 {
-    let n = setup.n;
-    if !rest_unused(n, t) {
+    let told = records_judged(setup, t);
+    if !told.good {
         return false;
     }
-    slots_good(setup, t)
+    if told.apart {
+        return true;
+    }
+    ids_differ(setup.n, t)
 }
 
 pub fn tables_same(n: usize, a: [Slot; RECORDS], b: [Slot; RECORDS]) -> bool

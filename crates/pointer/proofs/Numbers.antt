@@ -1,22 +1,24 @@
 -- The display's numbers: touch and tool by how many contacts are live, zeros, and X and Y of the oldest contact. Cited by the proofs here. Assumes nothing.
-use mathlib.Core.Path.{_≡_, refl, sym, ap, ap₂, _∙_}
-use mathlib.Core.Bool.{Bool, true, false, not, _&&_, _||_}
+use mathlib.Core.Path.{_≡_, refl, sym, ap, ap₂, _∙_, subst}
+use mathlib.Core.Bool.{Bool, true, false, not, cond, _&&_, _||_}
 use mathlib.Core.List.{List, [], _∷_}
 use Prim.Native.Nat.{ℕ, zero, suc, _+_, _-_, _≤_, _<_}
 use native.Mathlib.Omega.{arith}
-use lib.Dec.{T, eqb}
+use lib.Dec.{T, eqb, ltb}
+use borrow.Author.Tests.{lt-ltb, le-ltb}
 use lib.IntN.{ℤ, pos}
 use lib.ListN.{length, drop, getD}
 use Rattle.model.specs.Panel.{records}
 use Rattle.model.specs.Table.{ids}
-use Rattle.model.specs.Ranks.{liveCount}
+use Rattle.model.specs.Ranks.{liveCount, goodRanks}
 use Rattle.model.specs.Pointer as P
-use Rattle.model.specs.Pointer.{touchOf, toolOf, oldestSlot, oldestNumber, pointed}
+use Rattle.model.specs.Pointer.{touchOf, toolOf, still, oldestSlot, oldestNumber, pointed}
 use Rattle.model.specs.Pointing.{zeros}
-use Rattle.model.proofs.Pointed.{still-live}
+use Rattle.model.proofs.RanksOldest.{oldest-there}
 use Rattle.panel.specs.declared.Slot.{Slot}
 use Rattle.panel.specs.Seen.{slotOf, tableOf, blank}
 use Rattle.panel.proofs.Tables.{slot-at}
+use Rattle.pointer.specs.Moved.{oldestOr0, shownOf}
 use Rattle.pointer.proofs.Turns.{next, past}
 
 -- ---- by how many contacts are live
@@ -57,17 +59,38 @@ neither false false c = refl
 
 -- ---- X and Y
 
--- What a table gives while a contact is live, its oldest one being in slot k.
-pub pointed-live : (t : List Slot) (rs : List ℕ) (q : P.Pointer) (m k : ℕ) → m ≡ liveCount (ids (tableOf t)) → (m ≡ 0 → ⊥) → k ≡ oldestSlot (ids (tableOf t)) rs → k < length t
-    → _≡_ {A = P.Pointer} (record { touch = touchOf m; tool = toolOf m; x = pos (getD t k blank .x); y = pos (getD t k blank .y) }) (pointed (tableOf t) rs q)
-pointed-live t rs q m k em n ek h =
-    let slot = sym (slot-at t k h) ∙ ap (λ j. getD (tableOf t) j []) ek in
-    let x = ap (λ s. getD s 1 (pos 0)) slot ∙ sym (still-live m (q .x) (oldestNumber 1 (tableOf t) rs) (positive m m refl n)) in
-    let y = ap (λ s. getD s 2 (pos 0)) slot ∙ sym (still-live m (q .y) (oldestNumber 2 (tableOf t) rs) (positive m m refl n)) in
-    _∙_ {A = P.Pointer} (λ i. record { touch = touchOf m; tool = toolOf m; x = x i; y = y i })
-    (λ i. record {
-      touch = touchOf (em i);
-      tool = toolOf (em i);
-      x = P.still (em i) (q .x) (oldestNumber 1 (tableOf t) rs);
-      y = P.still (em i) (q .y) (oldestNumber 2 (tableOf t) rs);
-    })
+pub oldest-found : (o k : ℕ) → k ≡ o → k < records → k ≡ cond (ltb o records) o 0
+oldest-found o k e h = e ∙ ap (λ b. cond b o 0) (sym (lt-ltb o records (omega (arith, e))))
+
+pub oldest-none : (o : ℕ) → records ≤ o → 0 ≡ cond (ltb o records) o 0
+oldest-none o h = ap (λ b. cond b o 0) (sym (le-ltb o records h))
+
+still-is : (m : ℕ) (o v w : ℤ) → (0 < m → v ≡ w) → still m o v ≡ still m o w
+still-is zero o v w H = refl
+still-is (suc m) o v w H = H (omega arith)
+
+-- What is shown of the oldest contact's slot, or of slot 0 where none is live, is what a table and its good ranks give.
+module _ (t : List Slot) (rs : List ℕ) (q : P.Pointer) (full : length t ≡ records) where
+  abbrev own : List ℤ
+  own = ids (tableOf t)
+
+  slot : length own ≡ records → T (goodRanks own rs) → 0 < liveCount own → slotOf (getD t (oldestOr0 own rs) blank) ≡ getD (tableOf t) (oldestSlot own rs) []
+  slot e g p =
+      let o = oldestSlot own rs in
+      let inside : o < records = omega (arith, e, oldest-there own rs g p) in
+      ap (λ k. slotOf (getD t k blank)) (sym (oldest-found o o refl inside)) ∙ sym (slot-at t o (omega (arith, full, inside)))
+
+  own-shown : length own ≡ records → T (goodRanks own rs) → shownOf (liveCount own) (getD t (oldestOr0 own rs) blank) q ≡ pointed (tableOf t) rs q
+  unfolding slot
+  own-shown e g =
+      let m = liveCount own in
+      let s = getD t (oldestOr0 own rs) blank in
+      let x = still-is m (q .x) (pos (s .x)) (oldestNumber 1 (tableOf t) rs) (λ p. ap (λ n. getD n 1 (pos 0)) (slot e g p)) in
+      let y = still-is m (q .y) (pos (s .y)) (oldestNumber 2 (tableOf t) rs) (λ p. ap (λ n. getD n 2 (pos 0)) (slot e g p)) in
+      λ i. record { touch = touchOf m; tool = toolOf m; x = x i; y = y i }
+
+  pub shown-is : (l : List ℤ) → l ≡ ids (tableOf t) → length l ≡ records → T (goodRanks l rs) → shownOf (liveCount l) (getD t (oldestOr0 l rs) blank) q ≡ pointed (tableOf t) rs q
+  unfolding own-shown
+  shown-is l e h g =
+      ap (λ k. shownOf (liveCount k) (getD t (oldestOr0 k rs) blank) q) e
+      ∙ own-shown (sym (ap length e) ∙ h) (subst (λ k. T (goodRanks k rs)) e g)

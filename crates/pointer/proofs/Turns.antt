@@ -7,8 +7,8 @@ use native.Mathlib.Numerals.{add-one}
 use native.Mathlib.Omega.{arith}
 use lib.Dec.{eqb}
 use lib.IntN.{ℤ, pos}
-use lib.ListN.{length, take, drop, getD, set, replicate, take-append-drop}
-use lib.Seq.{drop-cons}
+use lib.ListN.{length, take, drop, getD, set, replicate, length-set, take-append-drop}
+use lib.Seq.{drop-cons, take-suc-set, drop-set-lt}
 use Rattle.model.specs.Panel.{records}
 use Rattle.model.specs.Numbers.{eqZ, minusOne}
 use Rattle.model.specs.Table.{live, ids}
@@ -17,8 +17,10 @@ use Rattle.model.specs.Ranks.{oneMoreIf, liveCount, liveRanks, zeroUnused, ages
 use Rattle.model.specs.Pointer.{oldestSlot}
 use Rattle.model.proofs.RanksMarks.{Marked, marked-going, marked-begun}
 use Rattle.panel.specs.declared.Slot.{Slot}
-use Rattle.panel.specs.Seen.{tableOf, unused, unusedAll, sameFrom}
+use Rattle.common.proofs.Apart.{more-ids}
+use Rattle.panel.specs.Seen.{slotOf, tableOf, blank, unused}
 use Rattle.pointer.specs.Seen.{fateBy, fatesBy}
+use Rattle.pointer.specs.Moved.{Unused, Idle}
 
 -- ---- lists
 
@@ -57,12 +59,6 @@ module _ (l : List ℤ) (rs : List ℕ) (i : ℕ) where
   module _ (h : length l ≤ i) (k : length rs ≤ i) where
     pub oldest-over : oldestSlot (drop i l) (drop i rs) ≡ 0
     oldest-over = ap₂ oldestSlot (past l i h) (past rs i k)
-
-    pub unused-over : zeroUnused (drop i l) (drop i rs) ≡ true
-    unused-over = ap₂ zeroUnused (past l i h) (past rs i k)
-
-    pub ranks-over : liveRanks (drop i l) (drop i rs) ≡ []
-    ranks-over = ap₂ liveRanks (past l i h) (past rs i k)
 
 -- ---- the ids before a frame and after it
 
@@ -125,7 +121,24 @@ ids-parts zero t = refl
 ids-parts (suc n) [] = refl
 ids-parts (suc n) (s ∷ t) = ap {B = List ℤ} (λ l. s .id .0 ∷ l) (ids-parts n t)
 
--- They are those of its first n slots, and -1 for the others.
-pub ids-copied : (n : ℕ) (t : List Slot) (l : List ℤ) → sameFrom n t unusedAll → take n l ≡ ids (tableOf (take n t)) → drop n l ≡ drop n (replicate records minusOne) → l ≡ ids (tableOf t)
-ids-copied n t l u a b =
-    sym (take-append-drop n l) ∙ ap₂ {C = List ℤ} (λ x y. x ++ y) a (b ∙ sym (unused-ids n records) ∙ sym (ap ids u)) ∙ sym (ids-parts n t)
+-- What is known of ids of which i are taken out of a table, those past the first n being -1.
+pub record Copied (n : ℕ) (t : List Slot) (l : List ℤ) (i : ℕ) : Type 0 where
+  pub full : length l ≡ records
+  pub done : take i l ≡ ids (tableOf (take i t))
+  pub rest : drop n l ≡ drop n (replicate records minusOne)
+
+pub copied-start : (n : ℕ) (t : List Slot) → Copied n t (replicate records minusOne) 0
+copied-start n t = record { full = refl; done = refl; rest = refl }
+
+pub copied-turn : (n : ℕ) (t : List Slot) (l : List ℤ) (i : ℕ) → Copied n t l i → i < n → n ≤ records → length t ≡ records → Copied n t (set l i (getD t i blank .id .0)) (i + 1)
+copied-turn n t l i c h k e =
+    let v = getD t i blank .id .0 in
+    let room : i < length l = omega (arith, c .full) in
+    let more = take-suc-set l i v room ∙ ap (λ (a : List ℤ). a ++ v ∷ []) (c .done) ∙ sym (more-ids slotOf blank t i (omega arith)) in
+    record { full = length-set l i v ∙ c .full; done = rw add-one more; rest = drop-set-lt n l i v h ∙ c .rest }
+
+pub copied-over : (n : ℕ) (t : List Slot) (l : List ℤ) → Unused n t → Copied n t l n → (l ≡ ids (tableOf t)) × Idle n l
+copied-over n t l u c = (
+  sym (take-append-drop n l) ∙ ap₂ {C = List ℤ} (λ x y. x ++ y) (c .done) (c .rest ∙ sym (unused-ids n records) ∙ sym (ap ids (u .rest))) ∙ sym (ids-parts n t),
+  record { few = u .few; whole = c .full; rest = c .rest },
+)

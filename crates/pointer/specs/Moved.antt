@@ -1,15 +1,17 @@
 -- What the writer asks of ranks and tables, and what it is answered. Assumes nothing.
 use mathlib.Core.Path.{_≡_}
-use mathlib.Core.Bool.{Bool, true, false}
+use mathlib.Core.Bool.{Bool, true, false, cond}
 use mathlib.Core.List.{List}
 use Prim.Native.Nat.{ℕ, _≤_}
-use lib.Dec.{T}
-use lib.IntN.{ℤ}
-use lib.ListN.{length}
+use lib.Dec.{T, ltb}
+use lib.IntN.{ℤ, pos}
+use lib.ListN.{length, drop, replicate}
+use Rattle.model.specs.Numbers.{minusOne}
 use Rattle.model.specs.Panel.{records}
 use Rattle.model.specs.Table.{ids}
 use Rattle.model.specs.Ranks.{goodRanks, ranksAfter}
-use Rattle.model.specs.Pointer.{pointed}
+use Rattle.model.specs.Pointer as P
+use Rattle.model.specs.Pointer.{touchOf, toolOf, still, oldestSlot, pointed}
 use Rattle.panel.specs.declared.Slot.{Slot}
 use Rattle.panel.specs.Seen.{tableOf, unusedAll, sameFrom}
 use Rattle.pointer.specs.declared.Pointer.{Pointer}
@@ -21,12 +23,19 @@ pub record Unused (n : ℕ) (t : List Slot) : Type 0 where
   pub few : n ≤ records
   pub rest : sameFrom n t unusedAll
 
--- The ids of a table beside good ranks.
-pub record Ranked (t : List Slot) (l : List ℤ) (rs : List ℕ) : Type 0 where
-  pub own : l ≡ ids (tableOf t)
+-- Ids of which those past the first n are -1.
+pub record Idle (n : ℕ) (l : List ℤ) : Type 0 where
+  pub few : n ≤ records
   pub whole : length l ≡ records
-  pub each : length rs ≡ records
-  pub good : T (goodRanks l rs)
+  pub rest : drop n l ≡ drop n (replicate records minusOne)
+
+-- The oldest contact's slot, 0 where none is live.
+abbrev pub oldestOr0 : List ℤ → List ℕ → ℕ
+oldestOr0 l rs = cond (ltb (oldestSlot l rs) records) (oldestSlot l rs) 0
+
+-- What a display that was told q should see of m live contacts, the oldest in the slot s.
+abbrev pub shownOf : ℕ → Slot → P.Pointer → P.Pointer
+shownOf m s q = record { touch = touchOf m; tool = toolOf m; x = still m (q .x) (pos (s .x)); y = still m (q .y) (pos (s .y)) }
 
 -- The ranks after a frame, by the ids of the tables before it and after it.
 abbrev pub ranksBy : List Slot → List Slot → List ℕ → List ℕ

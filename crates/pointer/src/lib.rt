@@ -2,22 +2,22 @@
 ghost use mathlib.Core.Path.{_≡_};
 ghost use mathlib.Core.Bool.{true, false, _&&_, _||_, cond};
 ghost use mathlib.Core.List.{[], _++_};
-ghost use Prim.Native.Nat.{_≤_, _<_, suc};
+ghost use Prim.Native.Nat.{_≤_, _<_, _-_, suc};
 ghost use lib.Dec.{T, eqb, ltb};
 ghost use lib.IntN.{pos};
-ghost use lib.ListN.{length, getD};
+ghost use lib.ListN.{length, drop, getD};
 ghost use Rattle.model.specs.Panel.{records};
 ghost use Rattle.model.specs.Numbers.{eqZ};
-ghost use Rattle.model.specs.Table.{ids as idsIn, live};
+ghost use Rattle.model.specs.Table.{ids as idsIn, live, eqSlot};
 ghost use Rattle.model.specs.Frame.{goesOn};
 ghost use Rattle.model.specs.Ranks.{oneMoreIf, liveCount, goodRanks, ages, ranksAfter};
 ghost use Rattle.model.specs.Sending.{oneUnless};
-ghost use Rattle.model.specs.Pointer.{unmoved, touchOf, toolOf, oldestSlot, pointed as shownBy, eqPointer, emulated as toldBy};
+ghost use Rattle.model.specs.Pointer.{unmoved, touchOf, toolOf, eqPointer, emulated as toldBy};
 ghost use Rattle.model.specs.Pointing.{goodPointing, zeros as allZeros};
 ghost use Rattle.panel.specs.Seen.{tableOf, panelSeen};
 ghost use Rattle.pointer.specs.Seen.{pointerOf, pointingOf, fateBy, fatesBy};
 ghost use Rattle.pointer.specs.Marks.{Marks, marked, Sums, Told, ageBy};
-ghost use Rattle.pointer.specs.Moved.{Unused, Ranked, Moving, MovesTo, MovingIf, MovesBy};
+ghost use Rattle.pointer.specs.Moved.{Unused, Idle, oldestOr0, shownOf, Moving, MovesTo, MovingIf, MovesBy};
 use common::TrackingId;
 use panel::RECORDS;
 use panel::Setup;
@@ -49,23 +49,6 @@ fn lives(id: i32) -> bool
     ensures { λ r. ⌜ r ≡ live id ⌝ }
 {
     !common::same(id, TrackingId::UNUSED)
-}
-
-// The ids of a table by themselves: they are lent on, where a table would be copied. The walk ends at n: one of a known end is laid out by the compiler, which then copies every table that it can reach slot by slot.
-fn ids_of(n: usize, t: [Slot; RECORDS]) -> [i32; RECORDS]
-    requires { ⌜ Unused n t ⌝ }
-    ensures { λ r. ⌜ r ≡ idsIn (tableOf t) ⌝ }
-{
-    let mut l = [TrackingId::UNUSED; RECORDS];
-    let mut i: usize = 0;
-    while i < n {
-        let s = t[i];
-        let q = s.id;
-        let v = q.0;
-        l[i] = v;
-        i += 1;
-    }
-    l
 }
 
 fn live_count(ids: &[i32]) -> usize
@@ -111,15 +94,32 @@ fn all_marked(m: &[u8], top: usize) -> bool
     true
 }
 
+// All from n on are looked at, found or not, as in `plan::absent`.
+fn zero_from(n: usize, ranks: &[u8]) -> bool
+    requires { ⌜ (n ≤ records) × (length (now ranks) ≡ records) ⌝ }
+    ensures { λ r. ⌜ r ≡ allZeros (records - n) (drop n (now (ranks .entry))) ⌝ }
+{
+    let mut some = false;
+    let mut i = n;
+    while i < RECORDS {
+        some = some | (ranks[i] != 0);
+        i += 1;
+    }
+    !some
+}
+
 // Whether ranks are as they should be beside these ids: from 0 without gaps where a contact is live, 0 elsewhere.
-fn ranks_good(ids: &[i32], ranks: &[u8]) -> bool
-    requires { ⌜ (length (now ids) ≡ records) × (length (now ranks) ≡ records) ⌝ }
+fn ranks_good(n: usize, ids: &[i32], ranks: &[u8]) -> bool
+    requires { ⌜ Idle n (now ids) × (length (now ranks) ≡ records) ⌝ }
     ensures { λ r. ⌜ r ≡ goodRanks (now (ids .entry)) (now (ranks .entry)) ⌝ }
 {
+    if !zero_from(n, ranks) {
+        return false;
+    }
     let mut held = [0u8; RECORDS];
     let mut top: usize = 0;
     let mut i: usize = 0;
-    while i < RECORDS {
+    while i < n {
         let id = ids[i];
         let r = wide(ranks[i]);
         i += 1;
@@ -138,10 +138,10 @@ fn ranks_good(ids: &[i32], ranks: &[u8]) -> bool
     all_marked(&held, top)
 }
 
-// The slot whose contact began first, the lowest of several; the number of records where none is live.
+// The slot whose contact began first, the lowest of several; 0 where none is live.
 fn oldest_slot(ids: &[i32], ranks: &[u8]) -> usize
     requires { ⌜ (length (now ids) ≡ records) × (length (now ranks) ≡ records) ⌝ }
-    ensures { λ r. ⌜ r ≡ oldestSlot (now (ids .entry)) (now (ranks .entry)) ⌝ }
+    ensures { λ r. ⌜ (r < records) × (r ≡ oldestOr0 (now (ids .entry)) (now (ranks .entry))) ⌝ }
 {
     let mut i: usize = 0;
     while i < RECORDS {
@@ -150,7 +150,7 @@ fn oldest_slot(ids: &[i32], ranks: &[u8]) -> usize
         }
         i += 1;
     }
-    i
+    0
 }
 
 fn goes_on(was: i32, is: i32) -> bool
@@ -232,6 +232,30 @@ fn ranks_after(old: &[i32], new: &[i32], ranks: &[u8]) -> [u8; RECORDS]
     l
 }
 
+fn ids_same(old: &[i32], new: &[i32]) -> bool
+    requires { ⌜ (length (now old) ≡ records) × (length (now new) ≡ records) ⌝ }
+    ensures { λ r. ⌜ r ≡ eqSlot (now (old .entry)) (now (new .entry)) ⌝ }
+{
+    let mut some = false;
+    let mut i: usize = 0;
+    while i < RECORDS {
+        some = some | !common::same(old[i], new[i]);
+        i += 1;
+    }
+    !some
+}
+
+// The same where most frames begin and lift nothing: ranks stay while every id does.
+fn next_ranks(old: &[i32], new: &[i32], ranks: [u8; RECORDS]) -> [u8; RECORDS]
+    requires { ⌜ Told (now old) (now new) ranks × T (goodRanks (now old) ranks) ⌝ }
+    ensures { λ r. ⌜ r ≡ ranksAfter (fatesBy (now (old .entry)) (now (new .entry))) ranks ⌝ }
+{
+    if ids_same(old, new) {
+        return ranks;
+    }
+    ranks_after(old, new, &ranks)
+}
+
 // ---- the display's numbers
 
 fn touch_of(live: usize) -> u8
@@ -265,12 +289,10 @@ fn tool_of(live: usize) -> u16
     records::QUINTTAP
 }
 
-// What a display should see of a table, its ids and its good ranks. While no contact is live X and Y keep still.
-fn pointed(t: [Slot; RECORDS], ids: &[i32], ranks: &[u8], told: Pointer) -> Pointer
-    requires { ⌜ Ranked t (now ids) (now ranks) ⌝ }
-    ensures { λ r. ⌜ pointerOf r ≡ shownBy (tableOf t) (now (ranks .entry)) (pointerOf told) ⌝ }
+// What a display should see of so many live contacts, of which this is the oldest. While no contact is live X and Y keep still.
+fn pointed(live: usize, oldest: Slot, told: Pointer) -> Pointer
+    ensures { λ r. ⌜ pointerOf r ≡ shownOf live oldest (pointerOf told) ⌝ }
 {
-    let live = live_count(ids);
     if live == 0 {
         return Pointer {
             x: told.x,
@@ -279,8 +301,6 @@ fn pointed(t: [Slot; RECORDS], ids: &[i32], ranks: &[u8], told: Pointer) -> Poin
             touch: 0,
         };
     }
-    let k = oldest_slot(ids, ranks);
-    let oldest = t[k];
     Pointer {
         x: oldest.x,
         y: oldest.y,
@@ -297,20 +317,6 @@ fn pointers_same(a: Pointer, b: Pointer) -> bool
 
 // ---- what the writer calls
 
-// All are looked at, found or not, as in `plan::absent`.
-fn all_zero(ranks: &[u8]) -> bool
-    requires { ⌜ length (now ranks) ≡ records ⌝ }
-    ensures { λ r. ⌜ r ≡ allZeros records (now (ranks .entry)) ⌝ }
-{
-    let mut some = false;
-    let mut i: usize = 0;
-    while i < RECORDS {
-        some = some | (ranks[i] != 0);
-        i += 1;
-    }
-    !some
-}
-
 // With the option off nothing is ranked, and nothing was told.
 fn clear(ranks: [u8; RECORDS], told: Pointer) -> bool
     ensures { λ r. ⌜ r ≡ (allZeros records ranks && eqPointer (pointerOf told) unmoved) ⌝ }
@@ -321,19 +327,30 @@ fn clear(ranks: [u8; RECORDS], told: Pointer) -> bool
         tool: 0,
         touch: 0,
     };
-    all_zero(&ranks) & pointers_same(told, nothing)
+    zero_from(0, &ranks) & pointers_same(told, nothing)
 }
 
 // With the option on: good ranks, the numbers that they and the table give, and X and Y in range also while no contact is live.
+// The ids are taken out here and not by a function of its own, for a table that is handed on is copied; up to n, for the compiler lays out a walk to a known end, and then copies every table slot by slot.
 fn apt(setup: Setup, t: [Slot; RECORDS], ranks: [u8; RECORDS], told: Pointer) -> bool
     requires { ⌜ Unused (setup .n) t ⌝ }
     ensures { λ r. ⌜ r ≡ goodPointing true (panelSeen setup) (tableOf t) (pointingOf ranks told) ⌝ }
 {
-    let ids = ids_of(setup.n, t);
-    if !ranks_good(&ids, &ranks) {
+    let n = setup.n;
+    let mut ids = [TrackingId::UNUSED; RECORDS];
+    let mut i: usize = 0;
+    while i < n {
+        let s = t[i];
+        let q = s.id;
+        let v = q.0;
+        ids[i] = v;
+        i += 1;
+    }
+    if !ranks_good(n, &ids, &ranks) {
         return false;
     }
-    let p = pointed(t, &ids, &ranks, told);
+    let k = oldest_slot(&ids, &ranks);
+    let p = pointed(live_count(&ids), t[k], told);
     if !pointers_same(told, p) {
         return false;
     }
@@ -362,7 +379,7 @@ pub struct Moved {
     pub told: Pointer,
 }
 
-// Ranks after a frame, and what the display is to be told then.
+// Ranks after a frame, and what the display is to be told then. The ids are taken out as in `apt`.
 fn moves(
     n: usize,
     old: [Slot; RECORDS],
@@ -373,10 +390,23 @@ fn moves(
     requires { ⌜ Moving n old new ranks ⌝ }
     ensures { λ r. ⌜ MovesTo old new ranks told r ⌝ }
 {
-    let was = ids_of(n, old);
-    let is = ids_of(n, new);
-    let after = ranks_after(&was, &is, &ranks);
-    let told = pointed(new, &is, &after, told);
+    let mut was = [TrackingId::UNUSED; RECORDS];
+    let mut is = [TrackingId::UNUSED; RECORDS];
+    let mut i: usize = 0;
+    while i < n {
+        let o = old[i];
+        let p = o.id;
+        let u = p.0;
+        was[i] = u;
+        let s = new[i];
+        let q = s.id;
+        let v = q.0;
+        is[i] = v;
+        i += 1;
+    }
+    let after = next_ranks(&was, &is, ranks);
+    let k = oldest_slot(&is, &after);
+    let told = pointed(live_count(&is), new[k], told);
     Moved { ranks: after, told }
 }
 

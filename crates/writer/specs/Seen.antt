@@ -1,4 +1,5 @@
 -- The writer's state and answers as the model's, and back. The promises of `fresh` and `write` go through it. Assumes nothing.
+use mathlib.Core.Bool.{Bool}
 use mathlib.Core.List.{List}
 use Prim.Native.Nat.{ℕ}
 use lib.ListN.{replicate}
@@ -9,6 +10,7 @@ use Rattle.common.specs.declared.Verdict.{Verdict}
 use Rattle.common.specs.declared.Verdict.the-variants.{Accepted}
 use Rattle.common.specs.declared.SlotNumber.{SlotNumber}
 use Rattle.panel.specs.declared.Slot.{Slot}
+use Rattle.panel.specs.declared.Setup.{Setup}
 use Rattle.panel.specs.Seen.{tableOf, tableFrom, setupOf, setupFrom}
 use Rattle.common.specs.Seen.{verdictFrom}
 use Rattle.pointer.specs.declared.Moved.{Moved}
@@ -63,6 +65,10 @@ unmovedAll = record { ranks = replicate records 0; told = record { x = 0; y = 0;
 -- A state of its parts.
 abbrev pub madeOf : List Slot → Moved → Own → WriterState
 madeOf t m o = record { table = t; ranks = m .ranks; setup = o .setup; current = o .current; counter = o .counter; told = m .told; pointer = o .pointer }
+
+-- The parts but for its table, its ranks and what it told.
+abbrev pub ownOf : Setup → SlotNumber → ℕ → Bool → Own
+ownOf u c n on = record { setup = u; current = c; counter = n; pointer = on }
 
 -- With another current slot.
 abbrev pub withLast : Own → SlotNumber → Own

@@ -2,10 +2,9 @@
 ghost use mathlib.Core.Path.{_≡_};
 ghost use lib.ListN.{length};
 ghost use Rattle.model.specs.Panel.{base};
-ghost use Rattle.model.specs.Calls.{roomFor};
 ghost use Rattle.model.specs.Pointing.{pointerGood, freshPointerCall, pointerCall, pointerBuffer};
 ghost use Rattle.panel.specs.Seen.{setupOf};
-ghost use Rattle.writer.specs.Seen.{seen, freshFrom, writtenFrom, notWrittenBy, unmovedAll, madeOf, withLast, takenBy};
+ghost use Rattle.writer.specs.Seen.{seen, freshFrom, writtenFrom, notWrittenBy, unmovedAll, madeOf, ownOf, withLast, takenBy};
 use common::SlotNumber;
 use common::TrackingId;
 use common::Verdict;
@@ -75,6 +74,17 @@ impl Own {
             counter: self.counter,
             pointer: self.pointer,
         }
+    }
+}
+
+fn own_of(setup: Setup, current: SlotNumber, counter: u32, pointer: bool) -> Own
+    ensures { λ r. ⌜ r ≡ ownOf setup current counter pointer ⌝ }
+{
+    Own {
+        setup,
+        current,
+        counter,
+        pointer,
     }
 }
 
@@ -181,15 +191,6 @@ fn taken(table: [Slot; RECORDS], moved: Moved, own: Own, count: usize, changed: 
     }
 }
 
-fn has_room(size: usize, at: usize, need: usize) -> bool
-    ensures { λ r. ⌜ r ≡ roomFor need at size ⌝ }
-{
-    if size < at {
-        return false;
-    }
-    need <= size - at
-}
-
 // Writes a frame's events into `buf` from the position `at` on; refusals 2 to 5 in rising number.
 pub fn write(state: WriterState, frame: &[i32], buf: &mut [u8], at: usize) -> Written
     ensures { λ r. ⌜ (r ≡ writtenFrom (pointerCall base (seen state) (now (frame .entry)) at (length (now (buf .entry))))) × (now (buf .exit) ≡ pointerBuffer base (seen state) (now (frame .entry)) at (now (buf .entry))) ⌝ }
@@ -213,23 +214,22 @@ pub fn write(state: WriterState, frame: &[i32], buf: &mut [u8], at: usize) -> Wr
     let moved = pointer::move_on(state.pointer, setup.n, old, new, ranks, told);
     let tell = moved.told;
     let current = state.current;
-    let own = Own {
-        setup,
-        current,
-        counter: p.counter,
-        pointer: state.pointer,
-    };
+    let own = own_of(setup, current, p.counter, state.pointer);
     let others = tally::without_current(c.slots, current);
     let events = tally::event_count(c.numbers, others) + pointer::emulated(told, tell);
     let need = 8 * events;
-    if !has_room(buf.len(), at, need) {
+    if buf.len() < at {
+        return refused(Verdict::NoRoom, state, need);
+    }
+    if buf.len() - at < need {
         return refused(Verdict::NoRoom, state, need);
     }
     if events == 0 {
         return taken(new, moved, own, events, c.slots);
     }
     let from = send::send_touch(buf, at, told, tell);
-    let sent = send::send_slots(buf, from, old, new, others, current);
+    let was = state.table;
+    let sent = send::send_slots(buf, from, was, new, others, current);
     send::send_end(buf, sent.end, told, tell);
     let last = sent.last;
     taken(new, moved, own.with(last), events, c.slots)

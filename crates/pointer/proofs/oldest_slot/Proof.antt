@@ -1,4 +1,4 @@
--- `pointer::oldest_slot` is the first live slot of rank 0. The loop has passed i slots without one. Assumes nothing.
+-- `pointer::oldest_slot` is the first live slot of rank 0, or 0. The loop has passed i slots without one. Assumes nothing.
 use mathlib.Core.Path.{_≡_, refl, sym, ap, ap₂, _∙_}
 use mathlib.Core.Bool.{Bool, true, false, cond, _&&_}
 use Prim.Native.Nat.{suc, _≤_, _<_, _+_, _-_}
@@ -13,7 +13,7 @@ use Rattle.model.specs.Panel.{records}
 use Rattle.model.specs.Table.{live}
 use Rattle.model.specs.Pointer.{oldestSlot}
 use Rattle.pointer.proofs.Turns.{oldest-turn, oldest-over}
-use borrow.Author.Tests.{eq-eqb, ne-eqb}
+use Rattle.pointer.proofs.Numbers.{oldest-found, oldest-none}
 use borrow.Author.Needs.{needs}
 use Rattle.pointer.proofs.oldest_slot.Statement.{statement}
 use Rattle.pointer.proofs.oldest_slot.Tie as tie
@@ -60,7 +60,8 @@ returns c =
     let ranks = a .ranks .now in
     let turn = oldest-turn ids ranks (l .i) (search needs) (search needs) ∙ ap (λ b. cond b 0 (suc (oldestSlot (drop (l .i + 1) ids) (drop (l .i + 1) ranks)))) (found (c .before) ∙ c .if1 .taken) in
     let e : l .i ≡ oldestSlot ids ranks = omega (arith, l .inv .1, turn) in
-    e
+    let inside : l .i < records = search needs in
+    (inside, oldest-found (oldestSlot ids ranks) (l .i) e inside)
 
 add-i : tie.Need-add-i Inv-loop μ-loop
 add-i c = search needs
@@ -82,8 +83,8 @@ returns-2 c =
     let l = c .before .loop in
     let a = c .before .before .before .args in
     let over = oldest-over (a .ids .now) (a .ranks .now) (l .i) (search needs) (search needs) in
-    let e : l .i ≡ oldestSlot (a .ids .now) (a .ranks .now) = omega (arith, l .inv .1, over) in
-    e
+    let beyond : records ≤ oldestSlot (a .ids .now) (a .ranks .now) = omega (arith, l .inv .1, over) in
+    (omega arith, oldest-none (oldestSlot (a .ids .now) (a .ranks .now)) beyond)
 
 pub oldest-slot-spec : {M : Type 1} → statement M
 oldest-slot-spec =

@@ -1,12 +1,13 @@
 -- `writer::write` answers as the model's call does, refusal by refusal, and writes a good frame that has room. Assumes nothing.
 use mathlib.Core.Path.{_≡_, refl, sym, ap, ap₂, _∙_}
-use mathlib.Core.Bool.{Bool, true, false}
+use mathlib.Core.Bool.{Bool, true, false, _&&_}
 use mathlib.Core.List.{List}
-use Prim.Native.Nat.{ℕ, _≤_, _+_, _*_}
+use Prim.Native.Nat.{ℕ, _≤_, _+_, _-_, _*_}
 use native.Mathlib.Omega.{arith}
+use lib.Dec.{leb}
 use lib.IntN.{ℤ}
 use lib.ListN.{length}
-use borrow.Author.Tests.{eq-eqb, ne-eqb, not-true, not-false}
+use borrow.Author.Tests.{eq-eqb, ne-eqb, le-leb, lt-leb, not-true, not-false}
 use Rattle.model.specs.Panel.{base, perSlot, records}
 use Rattle.model.specs.Frame.{rowsFrom, sized, valuesGood}
 use Rattle.model.specs.Calls as C
@@ -19,7 +20,7 @@ use Rattle.plan.proofs.Turn.{good-plain}
 use Rattle.pointer.specs.declared.Moved.{Moved}
 use Rattle.tally.proofs.Told.{others-told, events-told}
 use Rattle.writer.specs.declared.WriterState.{WriterState}
-use Rattle.writer.specs.Seen.{seen, writtenFrom, takenBy}
+use Rattle.writer.specs.Seen.{seen, writtenFrom, withLast, takenBy}
 use Rattle.writer.proofs.States.{good-setup, good-size, good-current, good-counter, good-rest}
 use Rattle.writer.proofs.Outcome.{answer-by, buffer-by, refusal-is}
 use Rattle.writer.proofs.Accepted.{GoodFrame, PlannedFrame, Known, moving, refused-by, quiet, fits-touch, fits-slots, fits-end, same-size, sent}
@@ -87,10 +88,13 @@ framed : (p : tie.After-plan-frame) → PlannedFrame (st (given p)) (fr (given p
 framed p = record { good = good (passed p); plans = p .plan-frame .ensures; held = held-full (given p); made = made-full p }
 
 abbrev moved-at : tie.After-emulated → tie.After-move-on
-moved-at t = t .before .before .before .before .before
+moved-at t = t .before .before .before .before .before .before
 
 abbrev plan : tie.After-emulated → tie.After-plan-frame
 plan t = moved-at t .before .before .before .before .before
+
+abbrev owned : tie.After-emulated → tie.After-own-of
+owned t = t .before .before .before
 
 abbrev all : tie.After-emulated → tie.Start
 all t = given (plan t)
@@ -115,12 +119,29 @@ known t =
 
 -- ---- where the tests of the room and of the count are known
 
+abbrev bytes : tie.After-emulated → ℕ
+bytes t = 8 * (t .before .event-count .result + t .emulated .result)
+
+abbrev size : tie.After-emulated → ℕ
+size t = length (all t .args .buf .now)
+
+abbrev enough : tie.After-emulated → Bool
+enough t = roomFor (bytes t) (all t .args .at) (size t)
+
+-- The position is not past the end, so the bytes after it decide.
+by-rest : (i : tie.Else4) → (let t = i .before in enough t ≡ leb (bytes t) (size t - all t .args .at))
+by-rest i =
+    let t = i .before in
+    ap (λ b. b && leb (bytes t) (size t - all t .args .at)) (le-leb (all t .args .at) (size t) (i .if4 .left))
+
 -- There is room.
-roomy : (e : tie.Else4) → (let t = e .before .before in roomFor (8 * (t .before .event-count .result + t .emulated .result)) (all t .args .at) (length (all t .args .buf .now)) ≡ true)
-roomy e = sym (e .before .has-room .ensures) ∙ not-false (e .before .has-room .result) (e .if4 .left)
+roomy : (e : tie.Else5) → enough (e .before .before) ≡ true
+roomy e =
+    let t = e .before .before in
+    by-rest (e .before) ∙ le-leb (bytes t) (size t - all t .args .at) (e .if5 .left)
 
 -- And something changed.
-abbrev emulated-at : tie.Else5 → tie.After-emulated
+abbrev emulated-at : tie.Else6 → tie.After-emulated
 emulated-at n = n .before .before .before
 
 -- ---- the needs
@@ -193,14 +214,17 @@ plan-frame-requires c κs =
 move-on-requires : tie.Need-move-on-requires
 move-on-requires c κs = moving (framed (c .before .before .before .before))
 
+own-of-requires : tie.Need-own-of-requires
+own-of-requires c κs = search needs
+
 without-current-requires : tie.Need-without-current-requires
 without-current-requires c κs =
-    let p = c .before .before .before .before .before .before .before in
+    let p = c .before .before .before .before .before .before .before .before in
     good-current (st (given p)) (good (passed p) .state)
 
 event-count-requires : tie.Need-event-count-requires
 event-count-requires c κs =
-    let p = c .before .before .before .before .before .before .before .before in
+    let p = c .before .before .before .before .before .before .before .before .before in
     omega (arith, p .plan-frame .ensures .tells .before .numbers, good-size (st (given p)) (good (passed p) .state))
 
 emulated-requires : tie.Need-emulated-requires
@@ -212,54 +236,66 @@ add-events c = search needs
 mul-need : tie.Need-mul-need
 mul-need c = search needs
 
-has-room-requires : tie.Need-has-room-requires
-has-room-requires c κs = search needs
-
 refused-requires-4 : tie.Need-refused-requires-4
 refused-requires-4 c κs = search needs
 
 returns-4 : tie.Need-returns-4
 returns-4 c =
-    let h = c .before .before in
-    let t = h .before in
-    let none = sym (h .has-room .ensures) ∙ not-true (h .has-room .result) (c .before .if4 .taken) in
-    let r = refused-by (known t) (all t .args .at) (all t .args .buf .now) none in
+    let t = c .before .before in
+    let at = all t .args .at in
+    let none = ap (λ b. b && leb (bytes t) (size t - at)) (lt-leb at (size t) (c .before .if4 .taken)) in
+    let r = refused-by (known t) at (all t .args .buf .now) none in
     (c .refused4 .ensures ∙ r .0, r .1)
+
+sub-if5 : tie.Need-sub-if5
+sub-if5 c = search needs
+
+refused-requires-5 : tie.Need-refused-requires-5
+refused-requires-5 c κs = search needs
+
+returns-5 : tie.Need-returns-5
+returns-5 c =
+    let i = c .before .before in
+    let t = i .before in
+    let at = all t .args .at in
+    let none = by-rest i ∙ lt-leb (bytes t) (size t - at) (c .before .if5 .taken) in
+    let r = refused-by (known t) at (all t .args .buf .now) none in
+    (c .refused5 .ensures ∙ r .0, r .1)
 
 taken-requires : tie.Need-taken-requires
 taken-requires c κs = search needs
 
-returns-5 : tie.Need-returns-5
-returns-5 c =
+returns-6 : tie.Need-returns-6
+returns-6 c =
     let e = c .before .before in
     let t = e .before .before in
-    let r = quiet (known t) (all t .args .at) (all t .args .buf .now) (roomy e) (c .before .if5 .taken) in
-    (c .taken .ensures ∙ r .0, r .1)
+    let r = quiet (known t) (all t .args .at) (all t .args .buf .now) (roomy e) (c .before .if6 .taken) in
+    (c .taken .ensures ∙ ap (λ o. takenBy (made (plan t) .table) (moved t) o (t .before .event-count .result + t .emulated .result) (made (plan t) .changes .slots)) (owned t .own-of .ensures) ∙ r .0, r .1)
 
 send-touch-requires : tie.Need-send-touch-requires
 send-touch-requires c κs =
     let n = c .before in
     let t = emulated-at n in
-    fits-touch (known t) (all t .args .at) (all t .args .buf .now) (roomy (n .before)) (n .if5 .left)
+    fits-touch (known t) (all t .args .at) (all t .args .buf .now) (roomy (n .before)) (n .if6 .left)
 
 send-slots-requires : tie.Need-send-slots-requires
 send-slots-requires c κs =
-    let o = c .before .before .before in
+    let o = c .before .before .before .before in
     let n = o .before .before in
     let t = emulated-at n in
     let touch = o .send-touch in (
       good-current (st (all t)) (good (passed (plan t)) .state),
-      fits-slots (known t) (all t .args .at) (all t .args .buf .now) (roomy (n .before)) (n .if5 .left) (touch .result) (touch .last .0) (touch .ensures .0) (touch .ensures .1),
+      fits-slots (known t) (all t .args .at) (all t .args .buf .now) (roomy (n .before)) (n .if6 .left) (touch .result) (touch .last .0) (touch .ensures .0) (touch .ensures .1),
     )
 
 send-end-requires : tie.Need-send-end-requires
 send-end-requires c κs =
     let l = c .before .before .before in
-    let o = l .before .before .before .before in
+    let o = l .before .before .before .before .before in
     let n = o .before .before in
     let t = emulated-at n in
     let touch = o .send-touch in
-    fits-end (known t) (all t .args .at) (all t .args .buf .now) (roomy (n .before)) (n .if5 .left) (touch .result) (touch .last .0) (touch .ensures .0) (touch .ensures .1)
+    fits-end (known t) (all t .args .at) (all t .args .buf .now) (roomy (n .before)) (n .if6 .left) (touch .result) (touch .last .0) (touch .ensures .0) (touch .ensures .1)
     (l .send-slots .result) (l .send-slots .last .0) (l .send-slots .ensures)
 
 with-requires : tie.Need-with-requires
@@ -272,24 +308,24 @@ same-length : tie.Need-same-length
 same-length c =
     let e = c .before .before .before .before .before in
     let l = e .before .before .before .before in
-    let o = l .before .before .before .before in
+    let o = l .before .before .before .before .before in
     let n = o .before .before in
     let t = emulated-at n in
     let touch = o .send-touch in
-    same-size (known t) (all t .args .at) (all t .args .buf .now) (roomy (n .before)) (n .if5 .left) (touch .result) (touch .last .0) (touch .ensures .0) (touch .ensures .1)
+    same-size (known t) (all t .args .at) (all t .args .buf .now) (roomy (n .before)) (n .if6 .left) (touch .result) (touch .last .0) (touch .ensures .0) (touch .ensures .1)
     (l .send-slots .result) (l .send-slots .last .0) (l .send-slots .ensures) (e .send-end .last .0) (e .send-end .ensures)
 
-returns-6 : tie.Need-returns-6
-returns-6 c =
+returns-7 : tie.Need-returns-7
+returns-7 c =
     let e = c .before .before .before .before .before in
     let l = e .before .before .before .before in
-    let o = l .before .before .before .before in
+    let o = l .before .before .before .before .before in
     let n = o .before .before in
     let t = emulated-at n in
     let touch = o .send-touch in
-    let r = sent (known t) (all t .args .at) (all t .args .buf .now) (roomy (n .before)) (n .if5 .left) (touch .result) (touch .last .0) (touch .ensures .0) (touch .ensures .1)
+    let r = sent (known t) (all t .args .at) (all t .args .buf .now) (roomy (n .before)) (n .if6 .left) (touch .result) (touch .last .0) (touch .ensures .0) (touch .ensures .1)
     (l .send-slots .result) (l .send-slots .last .0) (l .send-slots .ensures) (e .send-end .last .0) (e .send-end .ensures) in
-    (c .taken2 .ensures ∙ ap (λ w. takenBy (made (plan t) .table) (moved t) w (t .before .event-count .result + t .emulated .result) (made (plan t) .changes .slots)) (c .before .with .ensures) ∙ r .0, r .1)
+    (c .taken2 .ensures ∙ ap (λ w. takenBy (made (plan t) .table) (moved t) w (t .before .event-count .result + t .emulated .result) (made (plan t) .changes .slots)) (c .before .with .ensures ∙ ap (λ o. withLast o (l .send-slots .result .last)) (owned t .own-of .ensures)) ∙ r .0, r .1)
 
 pub write-spec : {M : Type 1} → statement M
 write-spec =
@@ -306,20 +342,23 @@ write-spec =
     returns-3
     plan-frame-requires
     move-on-requires
+    own-of-requires
     without-current-requires
     event-count-requires
     emulated-requires
     add-events
     mul-need
-    has-room-requires
     refused-requires-4
     returns-4
-    taken-requires
+    sub-if5
+    refused-requires-5
     returns-5
+    taken-requires
+    returns-6
     send-touch-requires
     send-slots-requires
     send-end-requires
     with-requires
     taken-requires-2
     same-length
-    returns-6)
+    returns-7)

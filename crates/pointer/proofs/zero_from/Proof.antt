@@ -1,4 +1,4 @@
--- `pointer::all_zero` tells whether every rank is 0. The loop has looked at i of them. Assumes nothing.
+-- `pointer::zero_from` tells whether every rank from n on is 0. The loop has looked at those below i. Assumes nothing.
 use mathlib.Core.Path.{_≡_, refl, sym, ap, _∙_}
 use mathlib.Core.Bool.{Bool, true, false, not, _&&_, _||_, and-true}
 use Prim.Native.Nat.{_≤_, _<_, _+_, _-_}
@@ -9,14 +9,14 @@ use Rattle.model.specs.Panel.{records}
 use Rattle.model.specs.Pointing.{zeros}
 use Rattle.pointer.proofs.Numbers.{zeros-turn, zeros-over, neither}
 use borrow.Author.Needs.{needs}
-use Rattle.pointer.proofs.all_zero.Statement.{statement}
-use Rattle.pointer.proofs.all_zero.Tie as tie
+use Rattle.pointer.proofs.zero_from.Statement.{statement}
+use Rattle.pointer.proofs.zero_from.Tie as tie
 
 abbrev Inv-loop : tie.InvT-loop
-Inv-loop ranks some₀ i₀ some i = (i ≤ records) × (zeros records ranks ≡ (not some && zeros (records - i) (drop i ranks)))
+Inv-loop n ranks some₀ i₀ some i = (i ≤ records) × (zeros (records - n) (drop n ranks) ≡ (not some && zeros (records - i) (drop i ranks)))
 
 abbrev μ-loop : tie.MeasureT-loop
-μ-loop ranks some₀ i₀ some i = records - i
+μ-loop n ranks some₀ i₀ some i = records - i
 
 loop-holds : tie.Need-loop-holds Inv-loop μ-loop
 loop-holds c = (search needs, refl)
@@ -45,7 +45,7 @@ returns c =
     let over = zeros-over rs (l .i) (search needs) (search needs) in
     sym (l .inv .1 ∙ ap (λ b. not (l .some) && b) over ∙ and-true (not (l .some)))
 
-pub all-zero-spec : {M : Type 1} → statement M
-all-zero-spec =
+pub zero-from-spec : {M : Type 1} → statement M
+zero-from-spec =
     tie.close
     (tie.spec Inv-loop μ-loop loop-holds shared-slice-read-some add-i loop-less loop-again returns)
