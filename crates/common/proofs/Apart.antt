@@ -18,6 +18,7 @@ use Rattle.model.specs.Numbers.{eqZ, minusOne}
 use Rattle.model.specs.Table.{Slot, idOf, live, unheld, liveDiffer, ids}
 use Rattle.model.proofs.Bools.{holds, is-true, is-false, and-left, and-right, eqZ→eq, eqZ-refl}
 use Rattle.common.specs.Seen.{natural}
+pub use Rattle.common.specs.Marks.{bitOf, Met}
 use Rattle.common.proofs.Signs.{and-false, and-true}
 
 -- ---- an id's bit
@@ -30,9 +31,6 @@ and-grows a =
     let half : bitOr n b / 2 ≡ bitOr (n / 2) (b / 2) = omega (arith, or-step n b) in
     let h : bitAnd (n / 2) (c / 2) ≤ bitAnd (bitOr n b / 2) (c / 2) = rw half (ih (b / 2) (c / 2)) in
     omega (arith, and-step n c, and-step (bitOr n b) c, or-step n b)) a
-
-abbrev pub bitOf : ℤ → ℕ
-bitOf v = (1 * 2 ^ (natural v % 64)) % 2 ^ 64
 
 -- A set that an id's bit was put into has it.
 put-in : (m : ℕ) (v : ℤ) → bitAnd (bitOr m (bitOf v)) (bitOf v) ≡ 0 → ⊥
@@ -55,13 +53,15 @@ unheld-both : (v : ℤ) (l r : List ℤ) → unheld v (l ++ r) ≡ (unheld v l &
 unheld-both v [] r = refl
 unheld-both v (x ∷ l) r = ap (λ b. not (eqZ v x) && b) (unheld-both v l r) ∙ sym (and-assoc (not (eqZ v x)) (unheld v l) (unheld v r))
 
--- The live ids of a list fall on bits of m: a live number whose bit m lacks is none of them.
-abbrev pub Met : ℕ → List ℤ → Type 0
-Met m l = (v : ℤ) → eqZ v minusOne ≡ false → bitAnd m (bitOf v) ≡ 0 → unheld v l ≡ true
-
 met-more : (m o : ℕ) (l : List ℤ) (w : ℤ) → Met m l → ((v : ℤ) → bitAnd o (bitOf v) ≡ 0 → bitAnd m (bitOf v) ≡ 0)
     → ((v : ℤ) → eqZ v minusOne ≡ false → bitAnd o (bitOf v) ≡ 0 → eqZ v w ≡ false) → Met o (l ++ w ∷ [])
 met-more m o l w k g n v a z = unheld-both v l (w ∷ []) ∙ rw (k v a (g v z), n v a z)
+
+-- A list and one more id, whose bit is put in.
+pub met-join : (m : ℕ) (l : List ℤ) (w : ℤ) → Met m l → Met (bitOr m (bitOf w)) (l ++ w ∷ [])
+met-join m l w k =
+    met-more m (bitOr m (bitOf w)) l w k (λ v y. omega (arith, and-grows m (bitOf w) (bitOf v)))
+    (λ v a y. unlike v w (λ q. put-in m w (sym (ap (λ x. bitAnd (bitOr m (bitOf w)) (bitOf x)) q) ∙ y)))
 
 -- An id that is not live, or none of the list's, may follow the list.
 abbrev Follows : ℤ → List ℤ → Type 0

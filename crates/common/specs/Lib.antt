@@ -2,3 +2,4 @@
 pub mod Seen
 pub mod Lost
 pub mod Runs
+pub mod Marks

@@ -1,7 +1,7 @@
 -- The promise of the frame's judge leaves no choice: the law is of the contract itself. Assumes nothing.
 use mathlib.Core.Path.{sym, _∙_}
 use Rattle.model.specs.Unique.{OneAnswer}
-use Rattle.frame.proofs.values_ok.Reads as values-ok
+use Rattle.frame.proofs.row_ok.Reads as row-ok
 
-pub values-ok-one : OneAnswer values-ok.Learnt
-values-ok-one κs a r q s t e g = e ∙ sym g
+pub row-ok-one : OneAnswer row-ok.Learnt
+row-ok-one κs a r q s t e g = e ∙ sym g

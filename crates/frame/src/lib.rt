@@ -1,19 +1,15 @@
-// A frame's values: whether every kind is known and the numbers of a contact are in their ranges. The writer stands on it.
+// A frame's row: whether its kind is known and the numbers of a contact are in their ranges. The plan stands on it.
 ghost use mathlib.Core.Path.{_≡_};
-ghost use mathlib.Core.Bool.{true};
-ghost use Prim.Native.Nat.{_*_, _<_};
+ghost use Prim.Native.Nat.{_<_};
 ghost use lib.IntN.{pos};
-ghost use lib.ListN.{length};
 ghost use Rattle.model.specs.Numbers.{betweenZ};
-ghost use Rattle.model.specs.Panel.{base, setupGood, perSlot};
 ghost use Rattle.model.specs.Table.{numbersOf};
-ghost use Rattle.model.specs.Frame.{goodContact, goodRow, valuesGood};
-ghost use Rattle.panel.specs.Seen.{rowOf, setupOf, axesOf, panelSeen};
+ghost use Rattle.model.specs.Frame.{goodContact, goodRow};
+ghost use Rattle.panel.specs.Seen.{rowOf, axesOf};
 ghost use Rattle.frame.specs.Fit31.{Fit31};
 use panel::LEAST_POSITION;
 use panel::LEAST_PRESSURE;
 use panel::LEAST_SIZE;
-use panel::PER_SLOT;
 use panel::Row;
 use panel::Setup;
 
@@ -41,7 +37,7 @@ fn numbers_in(setup: Setup, r: Row) -> bool
 }
 
 // One slot's row. The other numbers count only where there is a contact.
-fn row_ok(setup: Setup, r: Row) -> bool
+pub fn row_ok(setup: Setup, r: Row) -> bool
     requires { ⌜ Fit31 setup ⌝ }
     ensures { λ b. ⌜ b ≡ goodRow (axesOf setup) (rowOf r) ⌝ }
 {
@@ -52,19 +48,4 @@ fn row_ok(setup: Setup, r: Row) -> bool
         return false;
     }
     numbers_in(setup, r)
-}
-
-pub fn values_ok(setup: Setup, frame: &[i32]) -> bool
-    requires { ⌜ (setupGood base (setupOf setup) ≡ true) × (length (now frame) ≡ perSlot * setup .n) ⌝ }
-    ensures { λ r. ⌜ r ≡ valuesGood (panelSeen setup) (now (frame .entry)) ⌝ }
-{
-    let n = setup.n;
-    let mut s: usize = 0;
-    while s < n {
-        if !row_ok(setup, panel::row_at(frame, PER_SLOT * s)) {
-            return false;
-        }
-        s += 1;
-    }
-    true
 }

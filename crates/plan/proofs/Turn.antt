@@ -1,29 +1,32 @@
 -- One turn of the plan: what a slot becomes, and the table and counter that are left to make.
 -- Cited by the proofs here; `good-plain` by the writer. Assumes nothing.
 use mathlib.Core.Path.{_≡_, refl, sym, ap, ap₂, _∙_}
-use mathlib.Core.Bool.{Bool, true, false, cond, _&&_, _||_}
+use mathlib.Core.Bool.{Bool, true, false, not, cond, _&&_, _||_}
 use mathlib.Core.List.{List, [], _∷_, _++_, append-assoc, map-append}
 use Prim.Native.Nat.{ℕ, zero, suc, _+_, _-_, _*_, _<_, _≤_}
 use native.Mathlib.Numerals.{add-one}
 use native.Mathlib.Omega.{arith}
+use lib.Dec.{eqb, leb, leb→le}
 use lib.IntN.{ℤ, pos, negsuc}
 use lib.ListN.{length, take, drop, getD, set, take-append-drop}
 use lib.Seq.{take-suc-set, drop-set-lt}
 use lib.Signed.{leZ}
+use borrow.Author.Tests.{ne-eqb}
 use Rattle.model.specs.Panel.{Axis, base, axisFields, perSlot}
 use Rattle.model.specs.Numbers.{eqZ, betweenZ}
 use Rattle.model.specs.Table.{Table, idOf, numbersOf, ids, live}
 use Rattle.model.specs.Records.{bitsOf}
 use Rattle.model.specs.Frame.{numbersFrom, rowsFrom, kindOf, goodContact, goodRow, goodRows, Fate, none, goesOn, begins, fate}
 use Rattle.model.specs.Frame.{freeId, slotAfter, takenAfter, counterAfter, Planned, after, planned, newTable}
-use Rattle.model.proofs.Bools.{and-left, and-right}
+use Rattle.model.proofs.Bools.{holds, and-left, and-right}
 use Rattle.model.proofs.Rows.{rows-next, rows-none}
 use Rattle.model.proofs.Tries.{Same, planned-same}
 use Rattle.panel.specs.declared.Slot as S
 use Rattle.panel.specs.declared.Setup.{Setup}
 use Rattle.panel.specs.Seen.{slotOf, tableOf, setupOf, axesOf, blank, sameFrom}
 use Rattle.panel.proofs.Tables.{rest-is}
-use Rattle.plan.specs.Row.{begun, contactOf, stayed, unsigned, plainRow, plainRows, planFrom}
+use Rattle.plan.specs.Row.{begun, contactOf, stayed, unsigned, plainRow}
+use Rattle.plan.specs.Walk.{planFrom}
 
 -- ---- a row's numbers
 
@@ -62,15 +65,9 @@ row-plain axes largest g e =
       | false ↦ λ h. contact-unsigned axes largest vs (and-right known _ h)
     ]) e
 
-rows-plain : (axes : List Axis) (largest : List ℕ) (fr : List (List ℤ)) → goodRows (axisFields axes largest) fr ≡ true → plainRows fr ≡ true
-rows-plain axes largest [] e = refl
-rows-plain axes largest (g ∷ fr) e =
-    let here = goodRow (axisFields axes largest) g in
-    ap₂ (λ c d. c && d) (row-plain axes largest g (and-left here _ e)) (rows-plain axes largest fr (and-right here _ e))
-
--- Rows that are good for a setup are plain.
-pub good-plain : (u : Setup) (fr : List (List ℤ)) → goodRows (axesOf u) fr ≡ true → plainRows fr ≡ true
-good-plain u fr e = rows-plain (base .axes) (setupOf u .largest) fr e
+-- A row that is good for a setup is plain.
+pub good-plain : (u : Setup) (g : List ℤ) → goodRow (axesOf u) g ≡ true → plainRow g ≡ true
+good-plain u g e = row-plain (base .axes) (setupOf u .largest) g e
 
 -- ---- a slot by its fate
 
@@ -114,6 +111,45 @@ module _ (was : S.Slot) (f : List ℤ) (at : ℕ) (j : ℕ) where
   pub stayed-slot : begun (fate (kindOf lent) (was .id .0)) ≡ false → plainRow lent ≡ true
       → slotOf (stayed (eqZ (kindOf lent) (pos 0)) was lent) ≡ slotAfter (fate (kindOf lent) (was .id .0)) j (slotOf was) (numbersOf lent)
   stayed-slot e g = stayed-by (eqZ (kindOf lent) (pos 0)) (eqZ (kindOf lent) (pos 2)) (live (was .id .0)) e g
+
+-- ---- a contact that goes on
+
+-- A good row of a kind that is not 0 gives a contact.
+contact-of : (u : Setup) (g : List ℤ) → eqZ (kindOf g) (pos 0) ≡ false → goodRow (axesOf u) g ≡ true → ((eqZ (kindOf g) (pos 1) || eqZ (kindOf g) (pos 2)) && goodContact (axesOf u) (numbersOf g)) ≡ true
+contact-of u g e good = sym (ap (λ b. b || ((eqZ (kindOf g) (pos 1) || eqZ (kindOf g) (pos 2)) && goodContact (axesOf u) (numbersOf g))) e) ∙ good
+
+-- And so a pressure: a slot that holds the row's numbers holds one.
+pub gives-pressure : (u : Setup) (was : S.Slot) (f : List ℤ) (at : ℕ) → (let g = numbersFrom perSlot f at in
+    eqZ (kindOf g) (pos 0) ≡ false → goodRow (axesOf u) g ≡ true → slotOf was ≡ slotOf (contactOf (was .id .0) g) → not (eqb (was .pressure) 0) ≡ true)
+gives-pressure u was f at e good same =
+    let g = numbersFrom perSlot f at in
+    let contact = and-right (eqZ (kindOf g) (pos 1) || eqZ (kindOf g) (pos 2)) _ (contact-of u g e good) in
+    let own = ap numbersOf (same ∙ held was f at 0 (was .id .0) (contact-unsigned (base .axes) (setupOf u .largest) (numbersOf g) contact)) in
+    let here = ap (goodContact (axesOf u)) own ∙ contact in
+    let rest = and-right (betweenZ (pos 0) (pos (u .y)) (pos (was .y)) && leb 0 (was .y)) _ (and-right (betweenZ (pos 0) (pos (u .x)) (pos (was .x)) && leb 0 (was .x)) _ here) in
+    let pressure = and-left (betweenZ (pos 0) (pos (u .pressure)) (pos (was .pressure)) && leb 1 (was .pressure)) _ rest in
+    let some = leb→le 1 (was .pressure) (holds _ (and-right (betweenZ (pos 0) (pos (u .pressure)) (pos (was .pressure))) _ pressure)) in
+    ap not (ne-eqb (was .pressure) 0 (λ z. omega (arith, some, z)))
+
+-- Of a kind that is not 0, where nothing begins: the kind is not 2, and the slot is live.
+pub goes-on : (k id : ℤ) → eqZ k (pos 0) ≡ false → begun (fate k id) ≡ false → (eqZ k (pos 2) ≡ false) × (live id ≡ true)
+goes-on k id = by (eqZ k (pos 0)) (eqZ k (pos 2)) (live id)
+  where
+    by : (k0 k2 lives : Bool) → k0 ≡ false → begun (fateBy k0 k2 lives) ≡ false → (k2 ≡ false) × (lives ≡ true)
+    by true k2 lives e f = let z : _≡_ {A = ℕ} 0 1 = cc in absurd (omega arith)
+    by false true lives e f = let z : _≡_ {A = ℕ} 0 1 = cc in absurd (omega arith)
+    by false false true e f = (refl, refl)
+    by false false false e f = let z : _≡_ {A = ℕ} 0 1 = cc in absurd (omega arith)
+
+-- So it is 1 where the row is good.
+pub kind-1 : (u : Setup) (g : List ℤ) → eqZ (kindOf g) (pos 0) ≡ false → eqZ (kindOf g) (pos 2) ≡ false → goodRow (axesOf u) g ≡ true → eqZ (kindOf g) (pos 1) ≡ true
+kind-1 u g e z good =
+    let known = and-left (eqZ (kindOf g) (pos 1) || eqZ (kindOf g) (pos 2)) _ (contact-of u g e good) in
+    sym (or-none (eqZ (kindOf g) (pos 1)) (eqZ (kindOf g) (pos 2)) z) ∙ known
+  where
+    or-none : (a b : Bool) → b ≡ false → (a || b) ≡ a
+    or-none true b f = refl
+    or-none false b f = f
 
 pub begun-taken : (f : Fate) (j : ℕ) (l : List ℤ) → begun f ≡ true → takenAfter f j l ≡ pos j ∷ l
 begun-taken f j l e = ap (λ g. takenAfter g j l) (is-begun f e)
@@ -181,14 +217,9 @@ module _ (frame : List ℤ) (s : ℕ) where
     rows-are : rowsFrom perSlot (n - s) frame (perSlot * s) ≡ row ∷ rest
     rows-are = rows-next perSlot n s frame l
 
-    plain : plainRows (rowsFrom perSlot (n - s) frame (perSlot * s)) ≡ true → (plainRow row && plainRows rest) ≡ true
-    plain e = sym (ap plainRows rows-are) ∙ e
-
-    pub plain-row : plainRows (rowsFrom perSlot (n - s) frame (perSlot * s)) ≡ true → plainRow row ≡ true
-    plain-row e = and-left (plainRow row) (plainRows rest) (plain e)
-
-    pub plain-rest : plainRows (rowsFrom perSlot (n - s) frame (perSlot * s)) ≡ true → plainRows rest ≡ true
-    plain-rest e = and-right (plainRow row) (plainRows rest) (plain e)
+    -- All from s on are good where the row of slot s is, and those after it.
+    pub good-turn : (u : Setup) → goodRows (axesOf u) (rowsFrom perSlot (n - s) frame (perSlot * s)) ≡ (goodRow (axesOf u) row && goodRows (axesOf u) rest)
+    good-turn u = ap (goodRows (axesOf u)) rows-are
 
     -- Once slot s is w, the ids taken are `more` and the counter is m.
     pub row-turn : (taken : List ℤ) (k : ℕ) (t : List S.Slot) (h : s < length t) (w : S.Slot) (more : List ℤ) (m : ℕ)
@@ -199,6 +230,17 @@ module _ (frame : List ℤ) (s : ℕ) where
     row-turn taken k t h w more m e same count =
         ap (λ r. after (tableOf (take s t)) (planned taken k r (tableOf (drop s t)))) rows-are
         ∙ plan-turn taken k t s h row rest w more m e same count
+
+    -- The same where nothing begins: the ids taken and the counter stay.
+    pub steady-turn : (taken : List ℤ) (k : ℕ) (t : List S.Slot) (h : s < length t) (w : S.Slot)
+        → (let f = fate kind (getD t s blank .id .0) in let j = freeId taken k in
+        slotOf w ≡ slotAfter f j (slotOf (getD t s blank)) (numbersOf row) → begun f ≡ false
+        → planFrom taken k n frame t s ≡ planFrom taken k n frame (set t s w) (s + 1))
+    steady-turn taken k t h w e z =
+        let f = fate kind (getD t s blank .id .0) in
+        let j = freeId taken k in
+        let same : Same (takenAfter f j taken) taken = rw (stayed-taken f j taken z) (λ i. refl) in
+        row-turn taken k t h w taken k e same (stayed-counter f j k z)
 
 -- Where no row is left, the table is made.
 pub no-row : (taken : List ℤ) (k n : ℕ) (frame : List ℤ) (t : List S.Slot) (s : ℕ) → n ≤ s

@@ -1,21 +1,24 @@
-// The table and the counter that a frame makes, and what it changes: which id a beginning contact takes, and every slot's new numbers. The writer stands on it.
+// The table and the counter that a frame makes, and what it changes: one walk judges each row, plans its slot and compares. A row that leaves its slot as it is is passed over. The writer stands on it.
 ghost use mathlib.Core.Path.{_≡_};
-ghost use mathlib.Core.Bool.{true};
 ghost use Prim.Native.Nat.{_*_, _<_, _≤_};
 ghost use lib.IntN.{pos};
 ghost use lib.ListN.{length, take};
 ghost use Rattle.model.specs.Panel.{idCount, perSlot, records};
 ghost use Rattle.model.specs.Numbers.{eqZ};
 ghost use Rattle.model.specs.Table.{ids, unheld};
-ghost use Rattle.model.specs.Frame.{fate, freeId, next, rowsFrom, framed};
-ghost use Rattle.panel.specs.Seen.{rowOf, tableOf, unusedAll, sameFrom};
-ghost use Rattle.tally.specs.Told.{Tells};
-ghost use Rattle.plan.specs.Row.{begun, contactOf, lifted, stayed, plainRows, Plans, RowsLeft, planFrom};
+ghost use Rattle.model.specs.Frame.{fate, freeId, next, framed, rowsFrom, valuesGood};
+ghost use Rattle.common.specs.Marks.{bitOf, Met};
+ghost use Rattle.panel.specs.Seen.{rowOf, tableOf, panelSeen};
+ghost use Rattle.tally.specs.Told.{unchanged};
+ghost use Rattle.plan.specs.Row.{begun, contactOf, lifted, stayed};
+ghost use Rattle.plan.specs.Quiet.{sameNumbers, quietRow, FirstLoud};
+ghost use Rattle.plan.specs.Walk.{Ready, RowsLeft, planFrom, refusedPlan, PlansBy, rowsGood};
 use common::SlotNumber;
 use common::TrackingId;
 use panel::PER_SLOT;
 use panel::RECORDS;
 use panel::Row;
+use panel::Setup;
 use panel::Slot;
 use tally::Changed;
 
@@ -51,15 +54,47 @@ fn after(k: u32) -> u32
     (k + 1) % TrackingId::COUNT
 }
 
+// The bit of 64 that an id falls on.
+fn mark_of(k: u32) -> u64
+    requires { ⌜ k < idCount ⌝ }
+    ensures { λ r. ⌜ r ≡ bitOf (pos k) ⌝ }
+{
+    1u64 << (k % 64)
+}
+
+// The bits that ids fall on. One that is -1 falls on the last, which does no harm: an id on a bit that is set is compared with all.
+fn marks_of(ids: &[i32]) -> u64
+    ensures { λ r. ⌜ Met r (now (ids .entry)) ⌝ }
+{
+    let mut held: u64 = 0;
+    let mut j: usize = 0;
+    while j < ids.len() {
+        held = held | (1u64 << (common::nat_of(ids[j]) % 64));
+        j += 1;
+    }
+    held
+}
+
+// Whether k is none of the taken ids. Most often its bit tells it.
+fn free(taken: &[i32], held: u64, k: u32) -> bool
+    requires { ⌜ (k < idCount) × Met held (now taken) ⌝ }
+    ensures { λ r. ⌜ r ≡ unheld (pos k) (now (taken .entry)) ⌝ }
+{
+    if held & mark_of(k) == 0 {
+        return true;
+    }
+    absent(taken, id_of(k))
+}
+
 // The first number from `from` on, wrapping, that is not taken: as many tries as ids can be taken are enough.
-fn choose(taken: &[i32], from: u32) -> u32
-    requires { ⌜ (length (now taken) ≤ 2 * records) × (from < idCount) ⌝ }
+fn choose(taken: &[i32], held: u64, from: u32) -> u32
+    requires { ⌜ (length (now taken) ≤ 2 * records) × (from < idCount) × Met held (now taken) ⌝ }
     ensures { λ r. ⌜ (r < idCount) × (r ≡ freeId (now (taken .entry)) from) ⌝ }
 {
     let mut k = from;
     let mut tries = TAKEN;
     while 0 < tries {
-        if absent(taken, id_of(k)) {
+        if free(taken, held, k) {
             return k;
         }
         k = after(k);
@@ -140,31 +175,87 @@ fn stays(was: Slot, r: Row) -> Slot
     contact(id, r)
 }
 
+// ---- rows that leave their slot as it is
+
+fn numbers_same(was: Slot, r: Row) -> bool
+    ensures { λ b. ⌜ b ≡ sameNumbers was (rowOf r) ⌝ }
+{
+    (was.x == records::bits_of(r.x))
+        & ((was.y == records::bits_of(r.y))
+            & ((was.pressure == records::bits_of(r.pressure))
+                & ((was.major == records::bits_of(r.major))
+                    & (was.minor == records::bits_of(r.minor)))))
+}
+
+// A slot that holds a pressure of 0 is no contact that a frame may give: its row is judged.
+fn quiet(was: Slot, r: Row) -> bool
+    ensures { λ b. ⌜ b ≡ quietRow was (rowOf r) ⌝ }
+{
+    let id = was.id;
+    if common::same(id.0, TrackingId::UNUSED) {
+        return common::same(r.first, 0);
+    }
+    common::same(r.first, 1) & ((was.pressure != 0) & numbers_same(was, r))
+}
+
+// The first slot whose row does not leave it as it is, or n. Most frames are quiet, and then nothing else is asked.
+pub fn first_loud(n: usize, t: [Slot; RECORDS], frame: &[i32]) -> usize
+    requires { ⌜ (n ≤ records) × (length (now frame) ≡ perSlot * n) ⌝ }
+    ensures { λ r. ⌜ FirstLoud n t (now (frame .entry)) r ⌝ }
+{
+    let mut s: usize = 0;
+    while s < n {
+        let r = panel::row_at(frame, PER_SLOT * s);
+        if !quiet(t[s], r) {
+            return s;
+        }
+        s += 1;
+    }
+    n
+}
+
+// ---- the walk
+
 pub struct Planned {
     pub table: [Slot; RECORDS],
     pub counter: u32,
     pub changes: Changed,
+    pub good: bool,
 }
 
-// How far a plan has come: the slot that is next, and what changed before it.
+// A row is bad: nothing is planned.
+fn refused(old: [Slot; RECORDS], counter: u32) -> Planned
+    ensures { λ r. ⌜ r ≡ refusedPlan old counter ⌝ }
+{
+    Planned {
+        table: old,
+        counter,
+        changes: Changed::none(),
+        good: false,
+    }
+}
+
+// How far a walk has come: the slot that is next, and what changed before it.
 struct Reached {
     slot: usize,
     changes: Changed,
 }
 
-// What is left to plan from a slot on in which a contact begins: the first of `made` are made, and the ids of the old table are taken. An ending or replaced contact's id stays taken to the end of the frame.
+// The walk from a slot on in which a contact begins, or whose row is bad: the first of `made` are made, and the ids of the old table are taken. An ending or replaced contact's id stays taken to the end of the frame.
 fn give_ids(
-    n: usize,
+    setup: Setup,
     old: [Slot; RECORDS],
     made: [Slot; RECORDS],
     counter: u32,
     frame: &[i32],
     from: Reached,
 ) -> Planned
-    requires { ⌜ RowsLeft n (from .slot) counter (now frame) × sameFrom n old unusedAll × Tells (from .slot) old made (from .changes) ⌝ }
-    ensures { λ r. ⌜ Plans n old (planFrom (ids (tableOf old)) counter n (now (frame .entry)) made (from .slot)) r ⌝ }
+    requires { ⌜ RowsLeft setup (from .slot) counter old made (from .changes) (now frame) ⌝ }
+    ensures { λ r. ⌜ PlansBy (rowsGood setup (now (frame .entry)) (from .slot)) (setup .n) old counter (planFrom (ids (tableOf old)) counter (setup .n) (now (frame .entry)) made (from .slot)) r ⌝ }
 {
+    let n = setup.n;
     let mut taken = ids_of(n, old);
+    let mut held = marks_of(&taken[..n]);
     let mut m = n;
     let mut t = made;
     let mut k = counter;
@@ -173,41 +264,56 @@ fn give_ids(
     while s < n {
         let r = panel::row_at(frame, PER_SLOT * s);
         let was = t[s];
-        let id = was.id;
-        if begins(r.first, id) {
-            let j = choose(&taken[..m], k);
-            let v = id_of(j);
-            let w = contact(v, r);
-            t[s] = w;
-            changes = tally::with_slot(changes, SlotNumber(s), tally::differ(was, w));
-            let q = v.0;
-            taken[m] = q;
-            m += 1;
-            k = after(j);
+        if quiet(was, r) {
             s += 1;
         } else {
-            let w = stays(was, r);
-            t[s] = w;
-            changes = tally::with_slot(changes, SlotNumber(s), tally::differ(was, w));
-            s += 1;
+            if !frame::row_ok(setup, r) {
+                return refused(old, counter);
+            }
+            if begins(r.first, was.id) {
+                let j = choose(&taken[..m], held, k);
+                let v = id_of(j);
+                let w = contact(v, r);
+                t[s] = w;
+                changes = tally::with_slot(changes, SlotNumber(s), tally::differ(was, w));
+                let q = v.0;
+                taken[m] = q;
+                held = held | mark_of(j);
+                m += 1;
+                k = after(j);
+                s += 1;
+            } else {
+                let w = stays(was, r);
+                t[s] = w;
+                changes = tally::with_slot(changes, SlotNumber(s), tally::differ(was, w));
+                s += 1;
+            }
         }
     }
     Planned {
         table: t,
         counter: k,
         changes,
+        good: true,
     }
 }
 
-// The table and the counter after n good rows, of a table that was never used past n slots, and what changed. Most frames begin no contact: the taken ids are gathered at the first that does.
-// A slot that stays as it is, as most do, is passed over.
-pub fn plan_frame(n: usize, old: [Slot; RECORDS], counter: u32, frame: &[i32]) -> Planned
-    requires { ⌜ (n ≤ records) × (counter < idCount) × (length (now frame) ≡ perSlot * n) × (plainRows (rowsFrom perSlot n (now frame) 0) ≡ true) × sameFrom n old unusedAll ⌝ }
-    ensures { λ r. ⌜ Plans n old (framed counter (rowsFrom perSlot n (now (frame .entry)) 0) (tableOf old)) r ⌝ }
+// The table and the counter after a frame, and what changed, of a state's table; or that a row is bad. The rows before `from` are quiet.
+// Most frames begin no contact: the taken ids are gathered at the first that does.
+pub fn plan_frame(
+    setup: Setup,
+    old: [Slot; RECORDS],
+    counter: u32,
+    frame: &[i32],
+    from: usize,
+) -> Planned
+    requires { ⌜ Ready setup old counter (now frame) from ⌝ }
+    ensures { λ r. ⌜ PlansBy (valuesGood (panelSeen setup) (now (frame .entry))) (setup .n) old counter (framed counter (rowsFrom perSlot (setup .n) (now (frame .entry)) 0) (tableOf old)) r ⌝ }
 {
+    let n = setup.n;
     let mut t = old;
     let mut changes = Changed::none();
-    let mut s: usize = 0;
+    let mut s = from;
     while s < n {
         let r = panel::row_at(frame, PER_SLOT * s);
         let was = t[s];
@@ -218,17 +324,24 @@ pub fn plan_frame(n: usize, old: [Slot; RECORDS], counter: u32, frame: &[i32]) -
             s += 1;
         } else {
             let id = was.id;
-            if begins(r.first, id) {
-                let from = Reached { slot: s, changes };
-                return give_ids(n, old, t, counter, frame, from);
-            }
             let w = contact(id, r);
             let d = tally::differ(was, w);
-            if d == 0 {
+            if (d == 0)
+                & common::same(r.first, 1)
+                & !common::same(id.0, TrackingId::UNUSED)
+                & (was.pressure != 0)
+            {
                 s += 1;
             } else {
+                if begins(r.first, id) {
+                    let from = Reached { slot: s, changes };
+                    return give_ids(setup, old, t, counter, frame, from);
+                }
+                if !frame::row_ok(setup, r) {
+                    return refused(old, counter);
+                }
                 t[s] = w;
-                changes = tally::with_slot(changes, SlotNumber(s), d);
+                changes = tally::with_changed(changes, SlotNumber(s), d);
                 s += 1;
             }
         }
@@ -237,5 +350,6 @@ pub fn plan_frame(n: usize, old: [Slot; RECORDS], counter: u32, frame: &[i32]) -
         table: t,
         counter,
         changes,
+        good: true,
     }
 }

@@ -1,4 +1,4 @@
--- Ranks stay while every id does. Cited by the proof of `next_ranks`. Assumes nothing.
+-- Ranks stay while every id does. Cited by the proof of `moves`. Assumes nothing.
 -- Ids by themselves are a table whose slots hold nothing else: the model's law is asked of that table and a frame without rows.
 use mathlib.Core.Path.{_≡_, refl, sym, ap, ap₂, _∙_, subst}
 use mathlib.Core.Bool.{Bool, true, cond}

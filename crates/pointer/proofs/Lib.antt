@@ -6,6 +6,7 @@
 -- Numbers: touch and tool by how many contacts are live, zeros, X and Y of the oldest contact.
 -- Fates: what becomes of each record, by the ids before a frame and after it.
 -- Kept: ranks stay while every id does.
+-- Covered: whether every id stays, by the bits of the changed slots.
 -- Unique: each contract of a function that other crates call leaves one answer.
 -- Tops: live ranks that are marked, and the test for gaps.
 pub mod Turns
@@ -15,4 +16,5 @@ pub mod Idle
 pub mod Numbers
 pub mod Fates
 pub mod Kept
+pub mod Covered
 pub mod Unique

@@ -18,7 +18,7 @@ use Rattle.model.proofs.RanksOldest.{oldest-there}
 use Rattle.panel.specs.declared.Slot.{Slot}
 use Rattle.panel.specs.Seen.{slotOf, tableOf, blank}
 use Rattle.panel.proofs.Tables.{slot-at}
-use Rattle.pointer.specs.Moved.{oldestOr0, shownOf}
+use Rattle.pointer.specs.Moved.{oldestOr0, shownOf, placedAt}
 use Rattle.pointer.proofs.Turns.{next, past}
 
 -- ---- by how many contacts are live
@@ -68,6 +68,17 @@ oldest-none o h = ap (λ b. cond b o 0) (sym (le-ltb o records h))
 still-is : (m : ℕ) (o v w : ℤ) → (0 < m → v ≡ w) → still m o v ≡ still m o w
 still-is zero o v w H = refl
 still-is (suc m) o v w H = H (omega arith)
+
+-- While as many contacts are live as the display shows, it is told of the oldest one's place alone.
+pub placed-shown : (m : ℕ) (s : Slot) (q : P.Pointer) → q .touch ≡ touchOf m → q .tool ≡ toolOf m → placedAt s q ≡ shownOf m s q
+placed-shown m s q e g =
+    let x = ap (λ k. still k (q .x) (pos (s .x))) e ∙ touched m (q .x) (pos (s .x)) in
+    let y = ap (λ k. still k (q .y) (pos (s .y))) e ∙ touched m (q .y) (pos (s .y)) in
+    λ i. record { touch = e i; tool = g i; x = x i; y = y i }
+  where
+    touched : (m : ℕ) (o v : ℤ) → still (touchOf m) o v ≡ still m o v
+    touched zero o v = refl
+    touched (suc m) o v = refl
 
 -- What is shown of the oldest contact's slot, or of slot 0 where none is live, is what a table and its good ranks give.
 module _ (t : List Slot) (rs : List ℕ) (q : P.Pointer) (full : length t ≡ records) where

@@ -18,7 +18,7 @@ use Rattle.pointer.proofs.emulated.Reads as emulated
 pub pointing-ok-one : OneAnswer pointing-ok.Learnt
 pointing-ok-one κs a r q s t e g = e ∙ sym g
 
-moves-one : (on : Bool) (old new : List Slot) (rs : List ℕ) (q : Pointer) (r s : Moved) → MovesBy on old new rs q r → MovesBy on old new rs q s → r ≡ s
+pub moves-one : (on : Bool) (old new : List Slot) (rs : List ℕ) (q : Pointer) (r s : Moved) → MovesBy on old new rs q r → MovesBy on old new rs q s → r ≡ s
 moves-one true old new rs q r s e g =
     let ranks = e .ranks ∙ sym (g .ranks) in
     let told = e .told ∙ ap (λ k. pointed (tableOf new) k (pointerOf q)) ranks ∙ sym (g .told) in
@@ -26,7 +26,9 @@ moves-one true old new rs q r s e g =
 moves-one false old new rs q r s e g = e ∙ sym g
 
 pub move-on-one : OneAnswer move-on.Learnt
-move-on-one κs a r q s t e g = moves-one (a .0) (a .1 .1 .0) (a .1 .1 .1 .0) (a .1 .1 .1 .1 .0) (a .1 .1 .1 .1 .1 .0) r q e g
+move-on-one κs a r q s t e g =
+    let last = a .1 .1 .1 .1 .1 .0 in
+    moves-one (a .0) (a .1 .1 .0) (a .1 .1 .1 .0) (last .ranks) (last .told) r q e g
 
 pub emulated-one : OneAnswer emulated.Learnt
 emulated-one κs a r q s t e g = e .0 ∙ sym (g .0)

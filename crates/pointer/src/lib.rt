@@ -17,7 +17,7 @@ ghost use Rattle.model.specs.Pointing.{goodPointing, zeros as allZeros};
 ghost use Rattle.panel.specs.Seen.{tableOf, panelSeen};
 ghost use Rattle.pointer.specs.Seen.{pointerOf, pointingOf, fateBy, fatesBy};
 ghost use Rattle.pointer.specs.Marks.{Marks, marked, Sums, Told, ageBy};
-ghost use Rattle.pointer.specs.Moved.{Unused, Idle, oldestOr0, shownOf, Moving, MovesTo, MovingIf, MovesBy};
+ghost use Rattle.pointer.specs.Moved.{Unused, Idle, Covers, oldestOr0, shownOf, placedAt, Moving, MovesTo, MovingIf, MovesBy, StillIf};
 use common::TrackingId;
 use panel::RECORDS;
 use panel::Setup;
@@ -36,6 +36,9 @@ const BEGINNING: usize = RECORDS;
 
 // How many ages there are.
 const SUMS: usize = BEGINNING + 1;
+
+// The changed slots are a number of so many bits, of which each names a slot.
+const SLOTS: u32 = RECORDS as u32;
 
 fn wide(x: u8) -> usize
     ensures { λ r. ⌜ r ≡ x ⌝ }
@@ -232,28 +235,21 @@ fn ranks_after(old: &[i32], new: &[i32], ranks: &[u8]) -> [u8; RECORDS]
     l
 }
 
-fn ids_same(old: &[i32], new: &[i32]) -> bool
-    requires { ⌜ (length (now old) ≡ records) × (length (now new) ≡ records) ⌝ }
+// Whether every id stays, where `slots` tells the slots that may have changed: from one of them to the next, for a frame changes few.
+fn ids_stay(old: &[i32], new: &[i32], slots: u32) -> bool
+    requires { ⌜ (length (now old) ≡ records) × (length (now new) ≡ records) × Covers slots (now old) (now new) ⌝ }
     ensures { λ r. ⌜ r ≡ eqSlot (now (old .entry)) (now (new .entry)) ⌝ }
 {
-    let mut some = false;
-    let mut i: usize = 0;
-    while i < RECORDS {
-        some = some | !common::same(old[i], new[i]);
-        i += 1;
+    let mut left = slots;
+    while left != 0 {
+        let z = u32::trailing_zeros(left);
+        let s = (z % SLOTS) as usize;
+        left = left & (left - 1);
+        if !common::same(old[s], new[s]) {
+            return false;
+        }
     }
-    !some
-}
-
-// The same where most frames begin and lift nothing: ranks stay while every id does.
-fn next_ranks(old: &[i32], new: &[i32], ranks: [u8; RECORDS]) -> [u8; RECORDS]
-    requires { ⌜ Told (now old) (now new) ranks × T (goodRanks (now old) ranks) ⌝ }
-    ensures { λ r. ⌜ r ≡ ranksAfter (fatesBy (now (old .entry)) (now (new .entry))) ranks ⌝ }
-{
-    if ids_same(old, new) {
-        return ranks;
-    }
-    ranks_after(old, new, &ranks)
+    true
 }
 
 // ---- the display's numbers
@@ -306,6 +302,21 @@ fn pointed(live: usize, oldest: Slot, told: Pointer) -> Pointer
         y: oldest.y,
         tool: tool_of(live),
         touch: touch_of(live),
+    }
+}
+
+// The same where no id changes: touch and tool stay as they were told, and X and Y follow the oldest contact.
+fn placed(oldest: Slot, told: Pointer) -> Pointer
+    ensures { λ r. ⌜ pointerOf r ≡ placedAt oldest (pointerOf told) ⌝ }
+{
+    if told.touch == 0 {
+        return told;
+    }
+    Pointer {
+        x: oldest.x,
+        y: oldest.y,
+        tool: told.tool,
+        touch: told.touch,
     }
 }
 
@@ -379,16 +390,10 @@ pub struct Moved {
     pub told: Pointer,
 }
 
-// Ranks after a frame, and what the display is to be told then. The ids are taken out as in `apt`.
-fn moves(
-    n: usize,
-    old: [Slot; RECORDS],
-    new: [Slot; RECORDS],
-    ranks: [u8; RECORDS],
-    told: Pointer,
-) -> Moved
-    requires { ⌜ Moving n old new ranks ⌝ }
-    ensures { λ r. ⌜ MovesTo old new ranks told r ⌝ }
+// Ranks after a frame, and what the display is to be told then; most frames begin and lift nothing, and then only its X and Y may move. The ids are taken out as in `apt`.
+fn moves(n: usize, old: [Slot; RECORDS], new: [Slot; RECORDS], slots: u32, last: Moved) -> Moved
+    requires { ⌜ Moving n old new slots last ⌝ }
+    ensures { λ r. ⌜ MovesTo old new (last .ranks) (last .told) r ⌝ }
 {
     let mut was = [TrackingId::UNUSED; RECORDS];
     let mut is = [TrackingId::UNUSED; RECORDS];
@@ -404,7 +409,16 @@ fn moves(
         is[i] = v;
         i += 1;
     }
-    let after = next_ranks(&was, &is, ranks);
+    let ranks = last.ranks;
+    let told = last.told;
+    if ids_stay(&was, &is, slots) {
+        let k = oldest_slot(&is, &ranks);
+        return Moved {
+            ranks,
+            told: placed(new[k], told),
+        };
+    }
+    let after = ranks_after(&was, &is, &ranks);
     let k = oldest_slot(&is, &after);
     let told = pointed(live_count(&is), new[k], told);
     Moved { ranks: after, told }
@@ -416,16 +430,16 @@ pub fn move_on(
     n: usize,
     old: [Slot; RECORDS],
     new: [Slot; RECORDS],
-    ranks: [u8; RECORDS],
-    told: Pointer,
+    slots: u32,
+    last: Moved,
 ) -> Moved
-    requires { ⌜ MovingIf on n old new ranks ⌝ }
-    ensures { λ r. ⌜ MovesBy on old new ranks told r ⌝ }
+    requires { ⌜ MovingIf on n old new slots last ⌝ }
+    ensures { λ r. ⌜ MovesBy on old new (last .ranks) (last .told) r ⌝ }
 {
     if on {
-        return moves(n, old, new, ranks, told);
+        return moves(n, old, new, slots, last);
     }
-    Moved { ranks, told }
+    last
 }
 
 fn unlike(same: bool) -> usize
@@ -438,11 +452,22 @@ fn unlike(same: bool) -> usize
 }
 
 // How many events tell a display that was told q that it is z now.
-pub fn emulated(q: Pointer, z: Pointer) -> usize
+fn tells(q: Pointer, z: Pointer) -> usize
     ensures { λ r. ⌜ (r ≡ length (toldBy (pointerOf q) (pointerOf z))) × (r ≤ 5) ⌝ }
 {
     let same = q.tool == z.tool;
     unlike(q.touch == z.touch)
         + ((unlike(same | (q.tool == 0)) + unlike(same | (z.tool == 0)))
             + (unlike(q.x == z.x) + unlike(q.y == z.y)))
+}
+
+// The same by the option: off, nothing moved, and nothing is compared.
+pub fn emulated(on: bool, q: Pointer, z: Pointer) -> usize
+    requires { ⌜ StillIf on (pointerOf q) (pointerOf z) ⌝ }
+    ensures { λ r. ⌜ (r ≡ length (toldBy (pointerOf q) (pointerOf z))) × (r ≤ 5) ⌝ }
+{
+    if !on {
+        return 0;
+    }
+    tells(q, z)
 }

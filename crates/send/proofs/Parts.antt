@@ -1,20 +1,23 @@
--- What is sent, as bytes, number by number and part by part. Cited by the proofs here and by the writer's. Assumes nothing.
+-- What is sent, as bytes, number by number and part by part, and bytes laid one part after the other. Cited by the proofs here and by the writer's. Assumes nothing.
 use mathlib.Core.Path.{_≡_, refl, sym, ap, ap₂, _∙_}
 use mathlib.Core.Bool.{Bool, true, false}
 use mathlib.Core.List.{List, [], _∷_, _++_, append-assoc, append-nil}
-use Prim.Native.Nat.{ℕ}
+use Prim.Native.Nat.{ℕ, _+_, _-_, _≤_}
+use native.Mathlib.Omega.{arith}
 use lib.Dec.{eqb}
 use lib.IntN.{ℤ, pos}
+use lib.ListN.{length, take, drop, length-append, length-drop}
 use mir.Syntax.{w32}
 use mir.Val.{SFits}
 use Rattle.model.specs.Numbers.{eqZ}
-use Rattle.model.specs.Records.{bitsOf, recordBytes, eventBytes, bytesOf}
+use Rattle.model.specs.Records.{bitsOf, recordBytes, eventBytes, bytesOf, lay}
 use Rattle.model.specs.Sending.{Sent, sendSlot, sendNumber, sendReport, unless, changes, eventOf}
 use Rattle.panel.specs.declared.Slot.{Slot}
 use Rattle.panel.specs.Seen.{slotOf}
 use Rattle.common.proofs.Signs.{eq-bits}
 use Rattle.records.proofs.Bits.{bits-same}
-use Rattle.send.specs.Sent.{codes, bytesSent, noneIf, numberBytes, contactBytes, sizeBytes}
+use Rattle.records.proofs.Over.{lay-length, lay-lay, rest-all}
+use Rattle.send.specs.Sent.{codes, bytesSent, noneIf, numberBytes, contactBytes, restBytes}
 
 -- ---- lists of what is sent
 
@@ -59,7 +62,7 @@ number-bytes : (i code o v : ℕ) (l : List Sent) (m : List ℕ) → eventBytes 
 number-bytes i code o v l m e h = unless-bytes (eqb o v) (sendNumber i (pos v)) l ∙ ap₂ (λ x y. noneIf (eqb o v) x ++ y) e h
 
 pub changes-bytes : (o v : Slot) → SFits w32 (o .id .0) → SFits w32 (v .id .0)
-    → bytesSent (changes 0 (slotOf o) (slotOf v)) ≡ contactBytes o v ++ sizeBytes o v
+    → bytesSent (changes 0 (slotOf o) (slotOf v)) ≡ contactBytes o v ++ restBytes o v
 changes-bytes o v f g =
     let a0 = numberBytes 0x39 (bitsOf (o .id .0)) (bitsOf (v .id .0)) in
     let a1 = numberBytes 0x35 (o .x) (v .x) in
@@ -75,5 +78,28 @@ changes-bytes o v f g =
     unless-bytes (eqZ (o .id .0) (v .id .0)) (sendNumber 0 (v .id .0)) _
     ∙ ap (λ m. noneIf (eqZ (o .id .0) (v .id .0)) (recordBytes 3 0x39 (bitsOf (v .id .0))) ++ m) e1
     ∙ ap (λ b. noneIf b (recordBytes 3 0x39 (bitsOf (v .id .0))) ++ (a1 ++ (a2 ++ (a3 ++ (a4 ++ a5))))) (sym (same-id (o .id .0) (v .id .0) f g))
-    ∙ sym (append-assoc a0 a1 (a2 ++ (a3 ++ (a4 ++ a5))))
-    ∙ sym (append-assoc (a0 ++ a1) (a2 ++ a3) (a4 ++ a5) ∙ ap (λ m. (a0 ++ a1) ++ m) (append-assoc a2 a3 (a4 ++ a5)))
+    ∙ sym (append-assoc a0 (a1 ++ a2) (a3 ++ (a4 ++ a5)) ∙ ap (λ m. a0 ++ m) (append-assoc a1 a2 (a3 ++ (a4 ++ a5))))
+
+-- ---- bytes laid from a position on
+
+-- There is room for a record in the part that is lent from a position on.
+pub record-room : (at : ℕ) (W : List ℕ) → at + 8 ≤ length W → 8 ≤ length (take (length W - at) (drop at W))
+record-room at W h = rw (rest-all at W) (omega (arith, length-drop at W))
+
+-- A is laid over W from `at` on and ends at k, which leaves X, and R is still to come.
+pub record Begun (at k : ℕ) (A R W X : List ℕ) : Type 0 where
+  pub size : length X ≡ length W
+  pub room : k + length R ≤ length X
+  pub ends : k + length R ≡ at + length (A ++ R)
+  pub bytes : lay k R X ≡ lay at (A ++ R) W
+
+pub begins : {at k : ℕ} {A R W X : List ℕ} → k ≡ at + length A → X ≡ lay at A W → at + length (A ++ R) ≤ length W → Begun at k A R W X
+begins {at = at} {k = k} {A = A} {R = R} {W = W} {X = X} ek e h =
+    let fits : at + length A ≤ length W = omega (arith, length-append A R) in
+    let same = ap length e ∙ lay-length at A W fits in
+    record {
+      size = same;
+      room = omega (arith, same, length-append A R);
+      ends = omega (arith, length-append A R);
+      bytes = ap₂ (λ n l. lay n R l) ek e ∙ lay-lay at A R W fits;
+    }

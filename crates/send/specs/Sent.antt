@@ -40,14 +40,16 @@ numberBytes code old new = toldBytes 3 code old new
 abbrev pub changeBytes : Change → List ℕ
 changeBytes c = toldBytes (c .kind) (c .code) (c .old) (c .new)
 
--- The records of a slot's changed id, x, y and pressure, and of its changed sizes.
+-- The records of a slot's changed id, x and y, and of its changed pressure and sizes.
 abbrev pub contactBytes : Slot → Slot → List ℕ
 contactBytes o v =
-    (numberBytes 0x39 (bitsOf (o .id .0)) (bitsOf (v .id .0)) ++ numberBytes 0x35 (o .x) (v .x))
-    ++ (numberBytes 0x36 (o .y) (v .y) ++ numberBytes 0x3a (o .pressure) (v .pressure))
+    numberBytes 0x39 (bitsOf (o .id .0)) (bitsOf (v .id .0))
+    ++ (numberBytes 0x35 (o .x) (v .x) ++ numberBytes 0x36 (o .y) (v .y))
 
-abbrev pub sizeBytes : Slot → Slot → List ℕ
-sizeBytes o v = numberBytes 0x30 (o .major) (v .major) ++ numberBytes 0x31 (o .minor) (v .minor)
+abbrev pub restBytes : Slot → Slot → List ℕ
+restBytes o v =
+    numberBytes 0x3a (o .pressure) (v .pressure)
+    ++ (numberBytes 0x30 (o .major) (v .major) ++ numberBytes 0x31 (o .minor) (v .minor))
 
 -- Slot j's changes, opened by its number.
 abbrev pub openedAt : List Slot → List Slot → ℕ → List M.Sent

@@ -1,4 +1,4 @@
-// The events of a frame, written into a lent buffer: after each slot's events the rest of the buffer is lent on. The writer stands on it.
+// The events of a frame, written into a lent buffer from a position on. The writer stands on it.
 ghost use mathlib.Core.Path.{_≡_};
 ghost use mathlib.Core.List.{_∷_, _++_};
 ghost use Prim.Native.Nat.{_+_, _<_, _≤_};
@@ -7,8 +7,7 @@ ghost use Rattle.model.specs.Panel.{records};
 ghost use Rattle.model.specs.Records.{lay};
 ghost use Rattle.model.specs.Sending.{sendSlot, changes, oneUnless};
 ghost use Rattle.panel.specs.Seen.{slotOf};
-ghost use Rattle.records.specs.Seen.{over};
-ghost use Rattle.send.specs.Sent.{bytesSent, changeBytes, contactBytes, sizeBytes, sentBy, Reaches};
+ghost use Rattle.send.specs.Sent.{bytesSent, changeBytes, contactBytes, restBytes, sentBy, Reaches};
 ghost use Rattle.send.specs.Told.{oneIf, touchBytes, toolBytes, placeBytes, endBytes};
 use common::SlotNumber;
 use panel::RECORDS;
@@ -26,30 +25,22 @@ struct Change {
     new: u32,
 }
 
-// A number's record at the start of b, unless the number is the same; how many bytes.
-fn put_number(b: &mut [u8], c: Change) -> usize
-    requires { ⌜ length (changeBytes c) ≤ length (now b) ⌝ }
-    ensures { λ r. ⌜ (r ≡ length (changeBytes c)) × (now (b .exit) ≡ over (changeBytes c) (now (b .entry))) ⌝ }
+// A number's record, unless the number is the same; where the next one goes.
+// The buffer is lent on whole with a position, here and below: a part lent to each call costs instructions.
+fn put_number(b: &mut [u8], at: usize, c: Change) -> usize
+    requires { ⌜ at + length (changeBytes c) ≤ length (now b) ⌝ }
+    ensures { λ r. ⌜ (r ≡ at + length (changeBytes c)) × (now (b .exit) ≡ lay at (changeBytes c) (now (b .entry))) ⌝ }
 {
     if c.old == c.new {
-        return 0;
+        return at;
     }
-    records::put(b, c.kind, c.code, c.new);
-    records::LENGTH
+    records::put(&mut b[at..], c.kind, c.code, c.new);
+    at + records::LENGTH
 }
 
-fn put_two(b: &mut [u8], first: Change, second: Change) -> usize
-    requires { ⌜ length (changeBytes first ++ changeBytes second) ≤ length (now b) ⌝ }
-    ensures { λ r. ⌜ (r ≡ length (changeBytes first ++ changeBytes second)) × (now (b .exit) ≡ over (changeBytes first ++ changeBytes second) (now (b .entry))) ⌝ }
-{
-    let k = put_number(b, first);
-    let n = put_number(&mut b[k..], second);
-    k + n
-}
-
-fn put_contact(b: &mut [u8], old: Slot, new: Slot) -> usize
-    requires { ⌜ length (contactBytes old new) ≤ length (now b) ⌝ }
-    ensures { λ r. ⌜ (r ≡ length (contactBytes old new)) × (now (b .exit) ≡ over (contactBytes old new) (now (b .entry))) ⌝ }
+fn put_contact(b: &mut [u8], at: usize, old: Slot, new: Slot) -> usize
+    requires { ⌜ at + length (contactBytes old new) ≤ length (now b) ⌝ }
+    ensures { λ r. ⌜ (r ≡ at + length (contactBytes old new)) × (now (b .exit) ≡ lay at (contactBytes old new) (now (b .entry))) ⌝ }
 {
     let was = old.id;
     let is = new.id;
@@ -71,21 +62,21 @@ fn put_contact(b: &mut [u8], old: Slot, new: Slot) -> usize
         old: old.y,
         new: new.y,
     };
+    let i = put_number(b, at, id);
+    let j = put_number(b, i, x);
+    put_number(b, j, y)
+}
+
+fn put_rest(b: &mut [u8], at: usize, old: Slot, new: Slot) -> usize
+    requires { ⌜ at + length (restBytes old new) ≤ length (now b) ⌝ }
+    ensures { λ r. ⌜ (r ≡ at + length (restBytes old new)) × (now (b .exit) ≡ lay at (restBytes old new) (now (b .entry))) ⌝ }
+{
     let pressure = Change {
         kind: records::ABS,
         code: records::PRESSURE,
         old: old.pressure,
         new: new.pressure,
     };
-    let k = put_two(b, id, x);
-    let n = put_two(&mut b[k..], y, pressure);
-    k + n
-}
-
-fn put_sizes(b: &mut [u8], old: Slot, new: Slot) -> usize
-    requires { ⌜ length (sizeBytes old new) ≤ length (now b) ⌝ }
-    ensures { λ r. ⌜ (r ≡ length (sizeBytes old new)) × (now (b .exit) ≡ over (sizeBytes old new) (now (b .entry))) ⌝ }
-{
     let major = Change {
         kind: records::ABS,
         code: records::TOUCH_MAJOR,
@@ -98,26 +89,26 @@ fn put_sizes(b: &mut [u8], old: Slot, new: Slot) -> usize
         old: old.minor,
         new: new.minor,
     };
-    put_two(b, major, minor)
+    let i = put_number(b, at, pressure);
+    let j = put_number(b, i, major);
+    put_number(b, j, minor)
 }
 
-fn put_changes(b: &mut [u8], old: Slot, new: Slot) -> usize
-    requires { ⌜ length (bytesSent (changes 0 (slotOf old) (slotOf new))) ≤ length (now b) ⌝ }
-    ensures { λ r. ⌜ (r ≡ length (bytesSent (changes 0 (slotOf old) (slotOf new)))) × (now (b .exit) ≡ over (bytesSent (changes 0 (slotOf old) (slotOf new))) (now (b .entry))) ⌝ }
+fn put_changes(b: &mut [u8], at: usize, old: Slot, new: Slot) -> usize
+    requires { ⌜ at + length (bytesSent (changes 0 (slotOf old) (slotOf new))) ≤ length (now b) ⌝ }
+    ensures { λ r. ⌜ (r ≡ at + length (bytesSent (changes 0 (slotOf old) (slotOf new)))) × (now (b .exit) ≡ lay at (bytesSent (changes 0 (slotOf old) (slotOf new))) (now (b .entry))) ⌝ }
 {
-    let k = put_contact(b, old, new);
-    let n = put_sizes(&mut b[k..], old, new);
-    k + n
+    let i = put_contact(b, at, old, new);
+    put_rest(b, i, old, new)
 }
 
-fn put_opened(b: &mut [u8], s: SlotNumber, old: Slot, new: Slot) -> usize
-    requires { ⌜ (s .0 < records) × (length (bytesSent (sendSlot (s .0) ∷ changes 0 (slotOf old) (slotOf new))) ≤ length (now b)) ⌝ }
-    ensures { λ r. ⌜ (r ≡ length (bytesSent (sendSlot (s .0) ∷ changes 0 (slotOf old) (slotOf new)))) × (now (b .exit) ≡ over (bytesSent (sendSlot (s .0) ∷ changes 0 (slotOf old) (slotOf new))) (now (b .entry))) ⌝ }
+fn put_opened(b: &mut [u8], at: usize, s: SlotNumber, old: Slot, new: Slot) -> usize
+    requires { ⌜ (s .0 < records) × (at + length (bytesSent (sendSlot (s .0) ∷ changes 0 (slotOf old) (slotOf new))) ≤ length (now b)) ⌝ }
+    ensures { λ r. ⌜ (r ≡ at + length (bytesSent (sendSlot (s .0) ∷ changes 0 (slotOf old) (slotOf new)))) × (now (b .exit) ≡ lay at (bytesSent (sendSlot (s .0) ∷ changes 0 (slotOf old) (slotOf new))) (now (b .entry))) ⌝ }
 {
     let number = s.0 as u32;
-    records::put(b, records::ABS, records::SLOT, number);
-    let n = put_changes(&mut b[8..], old, new);
-    8 + n
+    records::put(&mut b[at..], records::ABS, records::SLOT, number);
+    put_changes(b, at + records::LENGTH, old, new)
 }
 
 // Where a frame's contact events end, and the slot last written.
@@ -142,8 +133,7 @@ pub fn send_slots(
     let c = current.0;
     let o = old[c];
     let v = new[c];
-    let first = put_changes(&mut b[at..], o, v);
-    let mut end = at + first;
+    let mut end = put_changes(b, at, o, v);
     let mut m = others;
     let mut last = c;
     while m != 0 {
@@ -151,8 +141,7 @@ pub fn send_slots(
         let s = (z % SLOTS) as usize;
         m = m & (m - 1);
         last = s;
-        let k = put_opened(&mut b[end..], SlotNumber(s), old[s], new[s]);
-        end = end + k;
+        end = put_opened(b, end, SlotNumber(s), old[s], new[s]);
     }
     Reached {
         end,
@@ -173,8 +162,7 @@ pub fn send_touch(b: &mut [u8], at: usize, q: Pointer, z: Pointer) -> usize
         old: q.touch as u32,
         new: z.touch as u32,
     };
-    let k = put_number(&mut b[at..], touch);
-    at + k
+    put_number(b, at, touch)
 }
 
 fn zero_if(same: bool) -> u32
@@ -196,9 +184,9 @@ fn one_if(same: bool) -> u32
 }
 
 // The old tool is 0 now, and then the new one is 1; code 0 is no tool.
-fn put_tools(b: &mut [u8], q: Pointer, z: Pointer) -> usize
-    requires { ⌜ length (toolBytes q z) ≤ length (now b) ⌝ }
-    ensures { λ r. ⌜ (r ≡ length (toolBytes q z)) × (now (b .exit) ≡ over (toolBytes q z) (now (b .entry))) ⌝ }
+fn put_tools(b: &mut [u8], at: usize, q: Pointer, z: Pointer) -> usize
+    requires { ⌜ at + length (toolBytes q z) ≤ length (now b) ⌝ }
+    ensures { λ r. ⌜ (r ≡ at + length (toolBytes q z)) × (now (b .exit) ≡ lay at (toolBytes q z) (now (b .entry))) ⌝ }
 {
     let same = q.tool == z.tool;
     let off = Change {
@@ -213,12 +201,13 @@ fn put_tools(b: &mut [u8], q: Pointer, z: Pointer) -> usize
         old: one_if(same | (z.tool == 0)),
         new: 1,
     };
-    put_two(b, off, on)
+    let i = put_number(b, at, off);
+    put_number(b, i, on)
 }
 
-fn put_place(b: &mut [u8], q: Pointer, z: Pointer) -> usize
-    requires { ⌜ length (placeBytes q z) ≤ length (now b) ⌝ }
-    ensures { λ r. ⌜ (r ≡ length (placeBytes q z)) × (now (b .exit) ≡ over (placeBytes q z) (now (b .entry))) ⌝ }
+fn put_place(b: &mut [u8], at: usize, q: Pointer, z: Pointer) -> usize
+    requires { ⌜ at + length (placeBytes q z) ≤ length (now b) ⌝ }
+    ensures { λ r. ⌜ (r ≡ at + length (placeBytes q z)) × (now (b .exit) ≡ lay at (placeBytes q z) (now (b .entry))) ⌝ }
 {
     let x = Change {
         kind: records::ABS,
@@ -232,16 +221,16 @@ fn put_place(b: &mut [u8], q: Pointer, z: Pointer) -> usize
         old: q.y,
         new: z.y,
     };
-    put_two(b, x, y)
+    let i = put_number(b, at, x);
+    put_number(b, i, y)
 }
 
-fn put_display(b: &mut [u8], q: Pointer, z: Pointer) -> usize
-    requires { ⌜ length (toolBytes q z ++ placeBytes q z) ≤ length (now b) ⌝ }
-    ensures { λ r. ⌜ (r ≡ length (toolBytes q z ++ placeBytes q z)) × (now (b .exit) ≡ over (toolBytes q z ++ placeBytes q z) (now (b .entry))) ⌝ }
+fn put_display(b: &mut [u8], at: usize, q: Pointer, z: Pointer) -> usize
+    requires { ⌜ at + length (toolBytes q z ++ placeBytes q z) ≤ length (now b) ⌝ }
+    ensures { λ r. ⌜ (r ≡ at + length (toolBytes q z ++ placeBytes q z)) × (now (b .exit) ≡ lay at (toolBytes q z ++ placeBytes q z) (now (b .entry))) ⌝ }
 {
-    let k = put_tools(b, q, z);
-    let n = put_place(&mut b[k..], q, z);
-    k + n
+    let i = put_tools(b, at, q, z);
+    put_place(b, i, q, z)
 }
 
 // The tools, X and Y, and the report, which ends every frame.
@@ -249,7 +238,6 @@ pub fn send_end(b: &mut [u8], at: usize, q: Pointer, z: Pointer)
     requires { ⌜ at + length (endBytes q z) ≤ length (now b) ⌝ }
     ensures { λ _. ⌜ now (b .exit) ≡ lay at (endBytes q z) (now (b .entry)) ⌝ }
 {
-    let k = put_display(&mut b[at..], q, z);
-    let end = at + k;
+    let end = put_display(b, at, q, z);
     records::put(&mut b[end..], records::SYN, records::REPORT, 0);
 }

@@ -78,6 +78,19 @@ pub fn with_slot(c: Changed, s: SlotNumber, d: u32) -> Changed
     Changed { slots, numbers }
 }
 
+// The same where a number is known to change.
+pub fn with_changed(c: Changed, s: SlotNumber, d: u32) -> Changed
+    requires { ⌜ (s .0 < records) × (d ≤ perSlot) × (0 < d) × Before (s .0) c ⌝ }
+    ensures { λ r. ⌜ r ≡ withSlot c (s .0) d ⌝ }
+{
+    let slots = c.slots + (1u32 << s.0);
+    let all = c.numbers + d;
+    Changed {
+        slots,
+        numbers: all,
+    }
+}
+
 // The changed slots without the current one, which is sent first and not opened.
 pub fn without_current(mask: u32, current: SlotNumber) -> u32
     requires { ⌜ current .0 < records ⌝ }

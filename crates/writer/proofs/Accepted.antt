@@ -33,11 +33,11 @@ use Rattle.panel.proofs.Back.{table-back}
 use Rattle.panel.proofs.Tables.{table-rest}
 use Rattle.records.proofs.Over.{lay-nil, lay-lay, lay-length}
 use Rattle.plan.specs.declared.Planned.{Planned}
-use Rattle.plan.specs.Row.{Plans}
+use Rattle.plan.specs.Walk.{Plans}
 use Rattle.pointer.specs.declared.Pointer.{Pointer}
 use Rattle.pointer.specs.declared.Moved.{Moved}
 use Rattle.pointer.specs.Seen.{pointerOf, pointerFrom, pointingOf, fatesBy}
-use Rattle.pointer.specs.Moved.{ranksBy, MovingIf, MovesBy}
+use Rattle.pointer.specs.Moved.{ranksBy, MovingIf, MovesBy, StillIf}
 use Rattle.pointer.proofs.Fates.{fates-are}
 use Rattle.send.specs.declared.Reached.{Reached}
 use Rattle.send.specs.Sent.{bytesSent, sentBy, Reaches}
@@ -45,7 +45,7 @@ use Rattle.send.specs.Told.{touchBytes, endBytes}
 use Rattle.writer.specs.declared.WriterState.{WriterState}
 use Rattle.writer.specs.declared.Written.{Written}
 use Rattle.writer.specs.declared.Own.{Own}
-use Rattle.writer.specs.Seen.{plain, seen, writtenFrom, notWrittenBy, writtenBy, takenBy}
+use Rattle.writer.specs.Seen.{plain, seen, writtenFrom, notWrittenBy, writtenBy, lastOf, takenBy}
 use Rattle.writer.proofs.States.{good-facts, good-pointing, good-size, good-rest, good-current, good-counter}
 use Rattle.writer.proofs.Outcome.{answer-by, buffer-by, refusal-is}
 use Rattle.writer.proofs.Events.{none-sent, no-events, last-is, frame-bytes}
@@ -85,10 +85,10 @@ module _ {s : WriterState} {f : List ℤ} {p : Planned} (k : PlannedFrame s f p)
   ranks-told = ap (λ fs. ranksAfter fs (s .ranks)) fates-told
 
   -- Before and after the frame the ranks are good, where the option is on.
-  pub moving : MovingIf (s .pointer) (s .setup .n) (s .table) (p .table) (s .ranks)
+  pub moving : MovingIf (s .pointer) (s .setup .n) (s .table) (p .table) (p .changes .slots) (lastOf s)
   moving = by (s .pointer) (good-pointing s (k .good .state))
     where
-      by : (b : Bool) → T (goodPointing b (panelSeen (s .setup)) (tableOf (s .table)) (pointingOf (s .ranks) (s .told))) → MovingIf b (s .setup .n) (s .table) (p .table) (s .ranks)
+      by : (b : Bool) → T (goodPointing b (panelSeen (s .setup)) (tableOf (s .table)) (pointingOf (s .ranks) (s .told))) → MovingIf b (s .setup .n) (s .table) (p .table) (p .changes .slots) (lastOf s)
       by false g = tt
       by true g =
           let now = on-facts (panelSeen (s .setup)) (tableOf (s .table)) (pointingOf (s .ranks) (s .told)) g in
@@ -99,7 +99,17 @@ module _ {s : WriterState} {f : List ℤ} {p : Planned} (k : PlannedFrame s f p)
             made = record { few = good-size s (k .good .state); rest = table-rest (s .setup) (p .table) (subst (λ t. T (goodTable (panelSeen (s .setup)) t)) (sym new-is) (after-steady base (plain s) f base-good (good-facts s (k .good .state)) (holds _ (k .good .values)) .good)) };
             before = now .ranked;
             after = subst (λ r. T (goodRanks (ids (tableOf (p .table))) r)) (sym ranks-told) (subst (λ t. T (goodRanks (ids t) (ranksAfter (fates rows (tableOf (s .table))) (s .ranks)))) (sym new-is) (later .ranked));
+            changed = k .plans .tells .slots;
+            shown = now .given;
           }
+
+  -- With the option off the display stays as it was told.
+  pub stays-told : (m : Moved) → MovesBy (s .pointer) (s .table) (p .table) (s .ranks) (s .told) m → StillIf (s .pointer) (pointerOf (s .told)) (pointerOf (m .told))
+  stays-told m h = by (s .pointer) h
+    where
+      by : (b : Bool) → MovesBy b (s .table) (p .table) (s .ranks) (s .told) m → StillIf b (pointerOf (s .told)) (pointerOf (m .told))
+      by false h = sym (ap (λ (x : Moved). pointerOf (x .told)) h)
+      by true h = tt
 
   -- What moved is what the model's frame makes of it.
   pub moved-is : (m : Moved) → MovesBy (s .pointer) (s .table) (p .table) (s .ranks) (s .told) m

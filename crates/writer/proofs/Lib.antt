@@ -5,6 +5,7 @@
 -- Outcome: the model's answer and buffer by the four tests; a refusal is the model's.
 -- Events: what the code sends by the changed-slot number is what the model sends, in its order and bytes.
 -- Accepted: what becomes of a good frame: no room, nothing changed, or written.
+-- Quiet: a frame that leaves every slot as it is hands the state back.
 -- Demands: refusals hand back, states stay well formed, live ids differ.
 -- Unique: the contracts of `fresh` and `write` leave one answer and one buffer.
 pub mod Back
@@ -12,5 +13,6 @@ pub mod States
 pub mod Outcome
 pub mod Events
 pub mod Accepted
+pub mod Quiet
 pub mod Demands
 pub mod Unique

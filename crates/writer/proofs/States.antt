@@ -1,5 +1,5 @@
 -- When a writer's state is well formed, test by test, and what the other functions know of one that is. Cited by the proofs of `state_ok` and `write`. Assumes nothing.
-use mathlib.Core.Path.{_≡_, refl, _∙_}
+use mathlib.Core.Path.{_≡_, refl, sym, _∙_}
 use mathlib.Core.Bool.{Bool, true, _&&_}
 use Prim.Native.Nat.{_<_, _≤_}
 use native.Mathlib.Omega.{arith}
@@ -7,7 +7,7 @@ use lib.Dec.{T, eqb, ltb}
 use lib.ListN.{length, length-map}
 use borrow.Author.Tests.{eq-eqb}
 use Rattle.model.specs.Panel.{base, setupGood, idCount, records}
-use Rattle.model.specs.Table.{idsDiffer, goodRecords}
+use Rattle.model.specs.Table.{idsDiffer, goodRecords, goodTable}
 use Rattle.model.specs.States.{writerGood}
 use Rattle.model.specs.Pointing.{pointerGood, goodPointing}
 use Rattle.model.proofs.Bools.{is-true}
@@ -15,7 +15,7 @@ use Rattle.model.proofs.Calls.{WriterFacts, writer-state}
 use Rattle.model.proofs.Pointing.{PointerFacts, pointer-facts}
 use Rattle.panel.specs.Seen.{slotOf, tableOf, setupOf, fieldsOf, panelSeen, unusedAll, sameFrom}
 use Rattle.panel.proofs.Setups.{holds, small}
-use Rattle.panel.proofs.Tables.{table-rest}
+use Rattle.panel.proofs.Tables.{table-good, table-rest}
 use Rattle.pointer.specs.Seen.{pointingOf}
 use Rattle.writer.specs.declared.WriterState.{WriterState}
 use Rattle.writer.specs.Seen.{plain, seen}
@@ -65,6 +65,9 @@ module _ (s : WriterState) (g : pointerGood base (seen s) ≡ true) where
 
   pub good-rest : sameFrom (s .setup .n) (s .table) unusedAll
   good-rest = table-rest (s .setup) (s .table) (good-facts .writer .good)
+
+  pub good-slots : length (s .table) ≡ records → goodRecords (fieldsOf (s .setup)) (s .setup .n) (tableOf (s .table)) ≡ true
+  good-slots l = sym (table-good (s .setup) (s .table) l) ∙ is-true (goodTable (panelSeen (s .setup)) (tableOf (s .table))) (good-facts .writer .good)
 
   pub good-counter : s .counter < idCount
   good-counter = good-facts .writer .counts

@@ -1,5 +1,5 @@
 -- The writer's state and answers as the model's, and back. The promises of `fresh` and `write` go through it. Assumes nothing.
-use mathlib.Core.Bool.{Bool}
+use mathlib.Core.Bool.{Bool, true, false}
 use mathlib.Core.List.{List}
 use Prim.Native.Nat.{ℕ}
 use lib.ListN.{replicate}
@@ -7,7 +7,7 @@ use Rattle.model.specs.Panel.{records}
 use Rattle.model.specs.States as M
 use Rattle.model.specs.Pointing as P
 use Rattle.common.specs.declared.Verdict.{Verdict}
-use Rattle.common.specs.declared.Verdict.the-variants.{Accepted}
+use Rattle.common.specs.declared.Verdict.the-variants.{Accepted, NoRoom}
 use Rattle.common.specs.declared.SlotNumber.{SlotNumber}
 use Rattle.panel.specs.declared.Slot.{Slot}
 use Rattle.panel.specs.declared.Setup.{Setup}
@@ -56,11 +56,20 @@ notWrittenBy v s need = record { state = s; count = 0; need = need; changed = 0;
 abbrev pub writtenBy : WriterState → ℕ → ℕ → Written
 writtenBy s count changed = record { state = s; count = count; need = 0; changed = changed; verdict = Accepted }
 
+-- The answer to a frame that changes nothing, by whether there is room for no bytes.
+abbrev pub stillBy : WriterState → Bool → Written
+stillBy s true = writtenBy s 0 0
+stillBy s false = notWrittenBy NoRoom s 0
+
 -- ---- a state's parts
 
 -- Nothing ranked, nothing told.
 abbrev pub unmovedAll : Moved
 unmovedAll = record { ranks = replicate records 0; told = record { x = 0; y = 0; tool = 0; touch = 0 } }
+
+-- A state's ranks and what it told.
+abbrev pub lastOf : WriterState → Moved
+lastOf s = record { ranks = s .ranks; told = s .told }
 
 -- A state of its parts.
 abbrev pub madeOf : List Slot → Moved → Own → WriterState

@@ -2,9 +2,10 @@
 ghost use mathlib.Core.Path.{_≡_};
 ghost use lib.ListN.{length};
 ghost use Rattle.model.specs.Panel.{base};
+ghost use Rattle.model.specs.Calls.{roomFor};
 ghost use Rattle.model.specs.Pointing.{pointerGood, freshPointerCall, pointerCall, pointerBuffer};
 ghost use Rattle.panel.specs.Seen.{setupOf};
-ghost use Rattle.writer.specs.Seen.{seen, freshFrom, writtenFrom, notWrittenBy, unmovedAll, madeOf, ownOf, withLast, takenBy};
+ghost use Rattle.writer.specs.Seen.{seen, freshFrom, writtenFrom, notWrittenBy, stillBy, unmovedAll, lastOf, madeOf, ownOf, withLast, takenBy};
 use common::SlotNumber;
 use common::TrackingId;
 use common::Verdict;
@@ -191,6 +192,41 @@ fn taken(table: [Slot; RECORDS], moved: Moved, own: Own, count: usize, changed: 
     }
 }
 
+// Whether so many bytes have room in a buffer of a size, from a position on.
+fn has_room(size: usize, at: usize, need: usize) -> bool
+    ensures { λ r. ⌜ r ≡ roomFor need at size ⌝ }
+{
+    if size < at {
+        return false;
+    }
+    need <= size - at
+}
+
+// The answer to a frame that leaves every slot as it is. It needs no bytes, and yet a position past the end is refused.
+fn unchanged(state: WriterState, size: usize, at: usize) -> Written
+    ensures { λ r. ⌜ r ≡ stillBy state (roomFor 0 at size) ⌝ }
+{
+    if !has_room(size, at, 0) {
+        return refused(Verdict::NoRoom, state, 0);
+    }
+    Written {
+        state,
+        count: 0,
+        need: 0,
+        changed: 0,
+        verdict: Verdict::Accepted,
+    }
+}
+
+// What the display was told last, and the ranks.
+fn last_of(state: WriterState) -> Moved
+    ensures { λ r. ⌜ r ≡ lastOf state ⌝ }
+{
+    let ranks = state.ranks;
+    let told = state.told;
+    Moved { ranks, told }
+}
+
 // Writes a frame's events into `buf` from the position `at` on; refusals 2 to 5 in rising number.
 pub fn write(state: WriterState, frame: &[i32], buf: &mut [u8], at: usize) -> Written
     ensures { λ r. ⌜ (r ≡ writtenFrom (pointerCall base (seen state) (now (frame .entry)) at (length (now (buf .entry))))) × (now (buf .exit) ≡ pointerBuffer base (seen state) (now (frame .entry)) at (now (buf .entry))) ⌝ }
@@ -202,34 +238,35 @@ pub fn write(state: WriterState, frame: &[i32], buf: &mut [u8], at: usize) -> Wr
     if frame.len() != PER_SLOT * setup.n {
         return refused(Verdict::Frame, state, 0);
     }
-    if !frame::values_ok(setup, frame) {
+    let old = state.table;
+    let from = plan::first_loud(setup.n, old, frame);
+    if from == setup.n {
+        return unchanged(state, buf.len(), at);
+    }
+    let p = plan::plan_frame(setup, old, state.counter, frame, from);
+    if !p.good {
         return refused(Verdict::Value, state, 0);
     }
-    let old = state.table;
-    let p = plan::plan_frame(setup.n, old, state.counter, frame);
     let new = p.table;
     let c = p.changes;
-    let ranks = state.ranks;
     let told = state.told;
-    let moved = pointer::move_on(state.pointer, setup.n, old, new, ranks, told);
+    let moved = pointer::move_on(state.pointer, setup.n, old, new, c.slots, last_of(state));
     let tell = moved.told;
     let current = state.current;
     let own = own_of(setup, current, p.counter, state.pointer);
     let others = tally::without_current(c.slots, current);
-    let events = tally::event_count(c.numbers, others) + pointer::emulated(told, tell);
+    let events = tally::event_count(c.numbers, others)
+        + pointer::emulated(state.pointer, told, tell);
     let need = 8 * events;
-    if buf.len() < at {
-        return refused(Verdict::NoRoom, state, need);
-    }
-    if buf.len() - at < need {
+    if !has_room(buf.len(), at, need) {
         return refused(Verdict::NoRoom, state, need);
     }
     if events == 0 {
-        return taken(new, moved, own, events, c.slots);
+        return unchanged(state, buf.len(), at);
     }
-    let from = send::send_touch(buf, at, told, tell);
+    let start = send::send_touch(buf, at, told, tell);
     let was = state.table;
-    let sent = send::send_slots(buf, from, was, new, others, current);
+    let sent = send::send_slots(buf, start, was, new, others, current);
     send::send_end(buf, sent.end, told, tell);
     let last = sent.last;
     taken(new, moved, own.with(last), events, c.slots)

@@ -1,47 +1,57 @@
--- `plan::plan_frame` makes the table and the counter after a frame and tells what changes, up to the first contact that begins; the rest is `give_ids`'. Assumes nothing.
+-- `plan::plan_frame` judges the rows of a frame, makes its table and counter and tells what changes, up to the first contact that begins; the rest is `give_ids`'. Assumes nothing.
 use borrow.Author.Needs.{needs}
-use mathlib.Core.Path.{_≡_, refl, sym, ap, _∙_}
-use mathlib.Core.Bool.{true, false, cond}
+use borrow.Author.Tests.{eq-eqb, not-true, not-false}
+use mathlib.Core.Path.{_≡_, refl, sym, ap, ap₂, subst, _∙_}
+use mathlib.Core.Bool.{Bool, true, false, not, cond, _&&_, false≢true}
 use mathlib.Core.List.{List, [], _∷_}
 use Prim.Native.Nat.{ℕ, _<_, _≤_, _+_, _-_, _*_}
 use native.Mathlib.Omega.{arith}
+use lib.Dec.{eqb, eqb→eq}
 use lib.IntN.{ℤ, pos}
 use lib.ListN.{length, getD, set, length-set}
 use lib.Seq.{set-getD}
 use mir.Syntax.{w32}
 use mir.Val.{SFits, ofZ, toZ}
 use mir.ValLaws.{toZ-ofZ}
-use Rattle.model.specs.Panel.{idCount, perSlot, records}
-use Rattle.model.specs.Numbers.{eqZ}
-use Rattle.model.specs.Table.{ids, live}
-use Rattle.model.specs.Frame.{Fate, kindOf, none, goesOn, begins, fate, freeId, rowsFrom, slotAfter, takenAfter, counterAfter, framed}
+use Rattle.model.specs.Panel.{base, setupGood, idCount, perSlot, records}
+use Rattle.model.specs.Numbers.{eqZ, minusOne}
+use Rattle.model.specs.Table.{ids, live, numbersOf, goodSlot}
+use Rattle.model.specs.Frame.{Fate, kindOf, goodRow, goodRows, valuesGood, none, goesOn, begins, fate, freeId, rowsFrom, slotAfter, framed, Planned}
 use Rattle.model.specs.Sending.{changedIn}
+use Rattle.model.proofs.Bools.{holds, and-left, and-right}
 use Rattle.model.proofs.Count.{none-changed}
-use Rattle.model.proofs.Tries.{Same}
+use Rattle.model.proofs.Rows.{rows-none}
+use Rattle.common.proofs.Signs.{first-false, first-true, or-true}
 use Rattle.panel.specs.declared.Slot.{Slot}
-use Rattle.panel.specs.Seen.{slotOf, tableOf, blank}
+use Rattle.panel.specs.declared.Setup.{Setup}
+use Rattle.panel.specs.Seen.{rowOf, slotOf, tableOf, setupOf, fieldsOf, axesOf, panelSeen, blank}
+use Rattle.panel.proofs.Setups.{small}
 use Rattle.tally.specs.declared.Changed.{Changed}
 use Rattle.tally.specs.Told.{withSlot, Tells}
-use Rattle.tally.proofs.Told.{none-told, told-on, told-set}
-use Rattle.plan.specs.Row.{begun, contactOf, stayed, plainRow, plainRows, planFrom}
+use Rattle.tally.proofs.Told.{told-on, told-set}
+use Rattle.plan.specs.Row.{begun, contactOf, stayed}
+use Rattle.plan.specs.Quiet.{Of32}
+use Rattle.plan.specs.Walk.{rowsGood, planFrom, PlansBy}
+use Rattle.plan.proofs.Still.{resting, same-by, slot-good, same-slot}
 use Rattle.plan.proofs.Turn as Turn
-use Rattle.plan.proofs.Turn.{stayed-slot, stayed-taken, stayed-counter}
+use Rattle.plan.proofs.Turn.{good-plain, stayed-slot, gives-pressure, goes-on, kind-1}
+use Rattle.plan.proofs.Skipped.{skipped}
 use Rattle.plan.proofs.plan_frame.Statement.{statement}
 use Rattle.plan.proofs.plan_frame.Tie as tie
 
--- The first s slots are made, and no id is given: what is left is what the frame plans, and c tells what changed.
-record Kept (n counter : ℕ) (frame : List ℤ) (old t : List Slot) (c : Changed) (s : ℕ) : Type 0 where
-  inside : s ≤ n
+-- The first s rows are good and their slots made, and no id is given: what is left is what the frame plans, and c tells what changed.
+record Kept (u : Setup) (old : List Slot) (counter : ℕ) (frame : List ℤ) (t : List Slot) (c : Changed) (s : ℕ) : Type 0 where
+  inside : s ≤ u .n
   slots : length t ≡ records
-  plain : plainRows (rowsFrom perSlot (n - s) frame (perSlot * s)) ≡ true
-  whole : framed counter (rowsFrom perSlot n frame 0) (tableOf old) ≡ planFrom (ids (tableOf old)) counter n frame t s
+  good : valuesGood (panelSeen u) frame ≡ rowsGood u frame s
+  whole : framed counter (rowsFrom perSlot (u .n) frame 0) (tableOf old) ≡ planFrom (ids (tableOf old)) counter (u .n) frame t s
   tells : Tells s old t c
 
 abbrev Inv-loop : tie.InvT-loop
-Inv-loop n old counter frame t₀ changes₀ s₀ t changes s = Kept n counter frame old t changes s
+Inv-loop u old counter frame from n t₀ changes₀ s₀ t changes s = Kept u old counter frame t changes s
 
 abbrev μ-loop : tie.MeasureT-loop
-μ-loop n old counter frame t₀ changes₀ s₀ t changes s = n - s
+μ-loop u old counter frame from n t₀ changes₀ s₀ t changes s = u .n - s
 
 -- ---- places
 
@@ -61,18 +71,41 @@ top b = turn b .before
 abbrev start : Row → tie.Start Inv-loop μ-loop
 start b = top b .before .before
 
--- Where the kind is not 0, and it is known whether a contact begins.
-abbrev asked : tie.After-begins Inv-loop μ-loop → tie.Else1 Inv-loop μ-loop
-asked c = c .before .before .before
+-- Where the kind is not 0, and it is known how many numbers change if the contact goes on.
+abbrev Compared : Type 0
+Compared = tie.After-differ2 Inv-loop μ-loop
 
--- Where the contact goes on, and its changes are known.
-abbrev going : tie.After-differ2 Inv-loop μ-loop → tie.Else2 Inv-loop μ-loop
-going c = c .before .before
+abbrev other : Compared → tie.Else1 Inv-loop μ-loop
+other d = d .before .before .before
 
-abbrev moved : tie.After-differ2 Inv-loop μ-loop → Row
-moved c = asked (going c .before) .before
+abbrev here : Compared → Row
+here d = other d .before
+
+-- Where the contact rests, and where it does not.
+abbrev calm : tie.Then2 Inv-loop μ-loop → Compared
+calm c = c .before .before .before .before .before .before
+
+abbrev loud : tie.Else2 Inv-loop μ-loop → Compared
+loud e = e .before .before .before .before .before .before
+
+-- Where it is known whether a contact begins.
+abbrev unrest : tie.After-begins Inv-loop μ-loop → tie.Else2 Inv-loop μ-loop
+unrest c = c .before .before
+
+-- Where none does, and the row is judged.
+abbrev Judged : Type 0
+Judged = tie.After-row-ok Inv-loop μ-loop
+
+abbrev going : Judged → tie.Else3 Inv-loop μ-loop
+going j = j .before
+
+abbrev moved : Judged → Compared
+moved j = loud (unrest (going j .before))
 
 -- ---- slot s and its row
+
+abbrev u : Row → Setup
+u b = start b .args .setup
 
 abbrev fr : Row → List ℤ
 fr b = start b .args .frame .now
@@ -81,7 +114,7 @@ abbrev old : Row → List Slot
 old b = start b .args .old
 
 abbrev n : Row → ℕ
-n b = start b .args .n
+n b = u b .n
 
 abbrev s : Row → ℕ
 s b = top b .loop .s
@@ -111,19 +144,29 @@ given b = freeId (taken b) (start b .args .counter)
 abbrev changed : Row → Changed
 changed b = top b .loop .changes
 
-known : (b : Row) → Kept (n b) (start b .args .counter) (fr b) (old b) (t b) (changed b) (s b)
+-- What the frame plans.
+abbrev plan : Row → Planned
+plan b = framed (start b .args .counter) (rowsFrom perSlot (n b) (fr b) 0) (tableOf (old b))
+
+known : (b : Row) → Kept (u b) (old b) (start b .args .counter) (fr b) (t b) (changed b) (s b)
 known b = top b .loop .inv
+
+good-setup : (b : Row) → setupGood base (setupOf (u b)) ≡ true
+good-setup b = start b .pre .given .setup
+
+few : (b : Row) → n b ≤ records
+few b = small (u b) (good-setup b) .n
 
 below : (b : Row) → s b < n b
 below b = turn b .loop-test .taken
 
 inside : (b : Row) → s b < length (t b)
-inside b = omega (arith, below b, known b .slots, start b .pre .0)
+inside b = omega (arith, below b, known b .slots, few b)
 
-held : (b : Row) → s b < length (old b)
-held b =
+in-old : (b : Row) → s b < length (old b)
+in-old b =
     let lo : length (old b) ≡ records = search needs in
-    omega (arith, below b, start b .pre .0)
+    omega (arith, below b, few b)
 
 -- The row's kind, read through its bits.
 own-kind : (b : Row) → toZ w32 (ofZ w32 (lent b .row-at .result .first)) ≡ kind b
@@ -135,56 +178,109 @@ own-kind b =
 kind-read : (b : Row) → b .same .result ≡ eqZ (kind b) (pos 0)
 kind-read b = b .same .ensures ∙ ap (λ z. eqZ z (pos 0)) (own-kind b)
 
-begins-is : (c : tie.After-begins Inv-loop μ-loop) → c .begins .result ≡ begun (becomes (asked c .before))
-begins-is c =
-    let b = asked c .before in
-    c .begins .ensures ∙ ap (λ z. begun (fate z (was b .id .0))) (own-kind b)
+-- The row's numbers are of 32 bits.
+fitting : (c : tie.After-row-at Inv-loop μ-loop) → Of32 (rowOf (c .row-at .result))
+fitting c =
+    let r = c .row-at .result in
+    let k : SFits w32 (r .first) = search needs in
+    let x : SFits w32 (r .x) = search needs in
+    let y : SFits w32 (r .y) = search needs in
+    let p : SFits w32 (r .pressure) = search needs in
+    let a : SFits w32 (r .major) = search needs in
+    let i : SFits w32 (r .minor) = search needs in
+    (k, (x, (y, (p, (a, (i, tt))))))
 
--- Slot s is w in the table l, and no contact began in it: the ids taken and the counter stay.
-turned : (b : Row) (w : Slot) → slotOf w ≡ slotOf (stayed (eqZ (kind b) (pos 0)) (was b) (row b)) → begun (becomes b) ≡ false
+-- The slot is good, since the old table's is.
+was-good : (b : Row) → goodSlot (fieldsOf (u b)) (slotOf (was b)) ≡ true
+was-good b =
+    let same = same-slot (old b) (t b) (s b) (in-old b) (inside b) (known b .tells .rest) in
+    ap (goodSlot (fieldsOf (u b))) (sym same) ∙ slot-good (u b) (old b) (s b) (below b) (in-old b) (start b .pre .given .slots)
+
+-- Slot s is w in the table l, its row is good, and no contact began in it.
+turned : (b : Row) (w : Slot) → slotOf w ≡ slotAfter (becomes b) (given b) (slotOf (was b)) (numbersOf (row b)) → begun (becomes b) ≡ false → goodRow (axesOf (u b)) (row b) ≡ true
     → (l : List Slot) → l ≡ set (t b) (s b) w → (c : Changed) → Tells (s b + 1) (old b) l c
-    → Kept (n b) (start b .args .counter) (fr b) (old b) l c (s b + 1)
-turned b w e stays l set-is c tells =
+    → Kept (u b) (old b) (start b .args .counter) (fr b) l c (s b + 1)
+turned b w e stays good l set-is c tells =
     let k = start b .args .counter in
-    let same : Same (takenAfter (becomes b) (given b) (taken b)) (taken b) = rw (stayed-taken (becomes b) (given b) (taken b) stays) (λ i. refl) in
-    let count = stayed-counter (becomes b) (given b) k stays in
-    let plain = Turn.plain-row (fr b) (s b) (n b) (below b) (known b .plain) in
-    let slot = e ∙ stayed-slot (was b) (fr b) (perSlot * s b) (given b) stays plain in
-    let turn = Turn.row-turn (fr b) (s b) (n b) (below b) (taken b) k (t b) (inside b) w (taken b) k slot same count in
+    let turn = Turn.steady-turn (fr b) (s b) (n b) (below b) (taken b) k (t b) (inside b) w e stays in
     record {
       inside = omega (arith, below b);
       slots = ap length set-is ∙ length-set (t b) (s b) w ∙ known b .slots;
-      plain = Turn.plain-rest (fr b) (s b) (n b) (below b) (known b .plain);
+      good = known b .good ∙ Turn.good-turn (fr b) (s b) (n b) (below b) (u b) ∙ first-true _ _ good;
       whole = known b .whole ∙ turn ∙ ap (λ x. planFrom (taken b) k (n b) (fr b) x (s b + 1)) (sym set-is);
       tells = tells;
     }
 
 -- It becomes w, of which d numbers changed.
-counted : (b : Row) (w : Slot) → w ≡ stayed (eqZ (kind b) (pos 0)) (was b) (row b) → begun (becomes b) ≡ false
+counted : (b : Row) (w : Slot) → slotOf w ≡ slotAfter (becomes b) (given b) (slotOf (was b)) (numbersOf (row b)) → begun (becomes b) ≡ false → goodRow (axesOf (u b)) (row b) ≡ true
     → (d : ℕ) → (d ≤ perSlot) × (d ≡ changedIn (slotOf (was b)) (slotOf w)) → (c : Changed) → c ≡ withSlot (changed b) (s b) d
-    → Kept (n b) (start b .args .counter) (fr b) (old b) (set (t b) (s b) w) c (s b + 1)
-counted b w e stays d f c ec =
-    let told = told-set (old b) (t b) (s b) (held b) (inside b) (changed b) (known b .tells) w d (f .0) (f .1) in
-    turned b w (ap slotOf e) stays (set (t b) (s b) w) refl c (rw ec told)
+    → Kept (u b) (old b) (start b .args .counter) (fr b) (set (t b) (s b) w) c (s b + 1)
+counted b w e stays good d f c ec =
+    let told = told-set (old b) (t b) (s b) (in-old b) (inside b) (changed b) (known b .tells) w d (f .0) (f .1) in
+    turned b w e stays good (set (t b) (s b) w) refl c (rw ec told)
 
--- It stays, since no number of what it becomes is another.
-quiet : (b : Row) (w : Slot) → w ≡ stayed (eqZ (kind b) (pos 0)) (was b) (row b) → begun (becomes b) ≡ false → changedIn (slotOf (was b)) (slotOf w) ≡ 0
-    → Kept (n b) (start b .args .counter) (fr b) (old b) (t b) (changed b) (s b + 1)
-quiet b w e stays z =
-    let same = none-changed (slotOf (was b)) (slotOf w) tt z in
-    let told = told-on (old b) (t b) (s b) (held b) (inside b) (changed b) (known b .tells) in
-    turned b (was b) (same ∙ ap slotOf e) stays (t b) (sym (set-getD (t b) (s b) blank)) (changed b) told
+-- ---- a contact that goes on
 
--- What a contact that goes on becomes.
-on : (c : tie.After-differ2 Inv-loop μ-loop) → c .before .contact .result ≡ stayed (eqZ (kind (moved c)) (pos 0)) (was (moved c)) (row (moved c))
-on c =
-    let b = moved c in
-    let not-0 : eqZ (kind b) (pos 0) ≡ false = sym (kind-read b) ∙ asked (going c .before) .if1 .left in
-    let w = c .before .contact .ensures ∙ ap (contactOf (was b .id .0)) (lent b .row-at .ensures) in
-    w ∙ sym (ap (λ z. stayed z (was b) (row b)) not-0)
+-- What the tests of its kind and of its id say.
+kind-read-1 : (k : tie.After-same2 Inv-loop μ-loop) → k .same2 .result ≡ eqZ (kind (here (k .before .before))) (pos 1)
+kind-read-1 k = k .same2 .ensures ∙ ap (λ z. eqZ z (pos 1)) (own-kind (here (k .before .before)))
 
-not-begun : (c : tie.After-differ2 Inv-loop μ-loop) → begun (becomes (moved c)) ≡ false
-not-begun c = sym (begins-is (going c .before)) ∙ going c .if2 .left
+id-read : (k : tie.After-same3 Inv-loop μ-loop) → (let b = here (k .before .before .before .before) in k .same3 .result ≡ eqZ (was b .id .0) minusOne)
+id-read k =
+    let b = here (k .before .before .before .before) in
+    let f : SFits w32 (was b .id .0) = search needs in
+    k .same3 .ensures ∙ ap (λ z. eqZ z minusOne) (toZ-ofZ w32 (was b .id .0) f)
+
+not-0 : (d : Compared) → eqZ (kind (here d)) (pos 0) ≡ false
+not-0 d = sym (kind-read (here d)) ∙ other d .if1 .left
+
+-- What it becomes.
+on : (d : Compared) → d .before .contact .result ≡ contactOf (was (here d) .id .0) (row (here d))
+on d = d .before .contact .ensures ∙ ap (contactOf (was (here d) .id .0)) (lent (here d) .row-at .ensures)
+
+-- Where no number changes it is what it was.
+as-was : (d : Compared) → d .differ2 .result ≡ 0 → slotOf (was (here d)) ≡ slotOf (contactOf (was (here d) .id .0) (row (here d)))
+as-was d z = none-changed (slotOf (was (here d))) (slotOf (d .before .contact .result)) tt (sym (d .differ2 .ensures .1) ∙ z) ∙ ap slotOf (on d)
+
+begins-is : (c : tie.After-begins Inv-loop μ-loop) → (let b = here (loud (unrest c)) in c .begins .result ≡ begun (becomes b))
+begins-is c =
+    let b = here (loud (unrest c)) in
+    c .begins .ensures ∙ ap (λ z. begun (fate z (was b .id .0))) (own-kind b)
+
+not-begun : (j : Judged) → begun (becomes (here (moved j))) ≡ false
+not-begun j = sym (begins-is (going j .before)) ∙ going j .if3 .left
+
+row-judged : (j : Judged) → (let b = here (moved j) in j .row-ok .result ≡ goodRow (axesOf (u b)) (row b))
+row-judged j =
+    let b = here (moved j) in
+    j .row-ok .ensures ∙ ap (goodRow (axesOf (u b))) (lent b .row-at .ensures)
+
+good-row : (e : tie.Else4 Inv-loop μ-loop) → (let b = here (moved (e .before)) in goodRow (axesOf (u b)) (row b) ≡ true)
+good-row e = sym (row-judged (e .before)) ∙ not-false (e .before .row-ok .result) (e .if4 .left)
+
+on-slot : (e : tie.Else4 Inv-loop μ-loop) → (let d = moved (e .before) in let b = here d in slotOf (d .before .contact .result) ≡ slotAfter (becomes b) (given b) (slotOf (was b)) (numbersOf (row b)))
+on-slot e =
+    let d = moved (e .before) in
+    let b = here d in
+    let w = on d ∙ sym (ap (λ z. stayed z (was b) (row b)) (not-0 d)) in
+    ap slotOf w ∙ stayed-slot (was b) (fr b) (perSlot * s b) (given b) (not-begun (e .before)) (good-plain (u b) (row b) (good-row e))
+
+-- A good row that is not at rest changes a number.
+some : (e : tie.Else4 Inv-loop μ-loop) → moved (e .before) .differ2 .result ≡ 0 → ⊥
+some e z =
+    let l = unrest (going (e .before) .before) in
+    let lives = l .before .before in
+    let kinds = lives .before .before in
+    let d = moved (e .before) in
+    let b = here d in
+    let g = goes-on (kind b) (was b .id .0) (not-0 d) (not-begun (e .before)) in
+    let k1 = kind-read-1 kinds ∙ kind-1 (u b) (row b) (not-0 d) (g .0) (good-row e) in
+    let alive = ap not (id-read lives) ∙ g .1 in
+    let pressed = gives-pressure (u b) (was b) (fr b) (perSlot * s b) (not-0 d) (good-row e) (as-was d z) in
+    let zero = eq-eqb (d .differ2 .result) 0 z in
+    let test : (((eqb (d .differ2 .result) 0 && kinds .same2 .result) && not (lives .same3 .result)) && not (eqb (was b .pressure) 0)) ≡ true =
+    λ i. ((zero i && k1 i) && alive i) && pressed i in
+    absurd (false≢true (sym (l .if2 .left) ∙ test))
 
 -- ---- the needs
 
@@ -194,21 +290,37 @@ none-requires c κs = search needs
 loop-holds : tie.Need-loop-holds Inv-loop μ-loop
 loop-holds c =
     let a = c .before .args in
-    let z : a .n - 0 ≡ a .n = omega arith in
+    let p = c .before .pre in
     let lt : length (a .old) ≡ records = search needs in
-    record { inside = omega arith; slots = lt; plain = rw z (c .before .pre .3); whole = rw z refl; tells = rw (c .none .ensures) (none-told (a .old)) }
+    let z : a .setup .n - 0 ≡ a .setup .n = omega arith in
+    let k = skipped (a .setup) (a .old) (a .counter) (a .frame .now) (p .given) lt (a .from) (p .inside) (p .quiet) in
+    let from-0 = ap (λ m. goodRows (axesOf (a .setup)) (rowsFrom perSlot m (a .frame .now) 0)) (sym z) in
+    let plan-0 = ap (λ m. framed (a .counter) (rowsFrom perSlot m (a .frame .now) 0) (tableOf (a .old))) (sym z) in
+    record {
+      inside = p .inside;
+      slots = lt;
+      good = from-0 ∙ k .good;
+      whole = plan-0 ∙ k .whole;
+      tells = rw (c .none .ensures) (k .tells);
+    }
 
 mul-row-at : tie.Need-mul-row-at Inv-loop μ-loop
-mul-row-at c = search needs
+mul-row-at c =
+    let st = c .before .before .before in
+    omega (arith, c .loop-test .taken, small (st .args .setup) (st .pre .given .setup) .n)
 
 row-at-requires : tie.Need-row-at-requires Inv-loop μ-loop
-row-at-requires c κs = omega (arith, c .loop-test .taken, c .before .before .before .pre .2)
+row-at-requires c κs = omega (arith, c .loop-test .taken, c .before .before .before .pre .given .size)
 
 mul-was : tie.Need-mul-was Inv-loop μ-loop
-mul-was c = search needs
+mul-was c =
+    let st = c .before .before .before .before in
+    omega (arith, c .before .loop-test .taken, small (st .args .setup) (st .pre .given .setup) .n)
 
 array-copy-out-was : tie.Need-array-copy-out-was Inv-loop μ-loop
-array-copy-out-was c = search needs
+array-copy-out-was c =
+    let st = c .before .before .before .before in
+    omega (arith, c .before .loop-test .taken, small (st .args .setup) (st .pre .given .setup) .n)
 
 same-requires : tie.Need-same-requires Inv-loop μ-loop
 same-requires c κs = search needs
@@ -217,10 +329,10 @@ lift-requires : tie.Need-lift-requires Inv-loop μ-loop
 lift-requires c κs = search needs
 
 mul-t : tie.Need-mul-t Inv-loop μ-loop
-mul-t c = search needs
+mul-t c = omega (arith, below (c .before .before), few (c .before .before))
 
 array-set-from-t : tie.Need-array-set-from-t Inv-loop μ-loop
-array-set-from-t c = search needs
+array-set-from-t c = omega (arith, below (c .before .before), few (c .before .before))
 
 differ-requires : tie.Need-differ-requires Inv-loop μ-loop
 differ-requires c κs = search needs
@@ -228,13 +340,15 @@ differ-requires c κs = search needs
 with-slot-requires : tie.Need-with-slot-requires Inv-loop μ-loop
 with-slot-requires c κs =
     let b = c .before .before .before in
-    (omega (arith, below b, start b .pre .0), c .differ .ensures .0, known b .tells .before)
+    (omega (arith, below b, few b), c .differ .ensures .0, known b .tells .before)
 
 add-s : tie.Need-add-s Inv-loop μ-loop
-add-s c = search needs
+add-s c =
+    let b = c .before .before .before .before in
+    omega (arith, below b, few b)
 
 loop-less : tie.Need-loop-less Inv-loop μ-loop
-loop-less c = search needs
+loop-less c = omega (arith, below (c .before .before .before .before))
 
 loop-again : tie.Need-loop-again Inv-loop μ-loop
 loop-again c =
@@ -242,23 +356,9 @@ loop-again c =
     let b = m .before .before in
     let is-0 : eqZ (kind b) (pos 0) ≡ true = sym (kind-read b) ∙ m .before .if1 .taken in
     let lives = live (was b .id .0) in
-    let no = ap (λ z. begun (cond z none (cond (eqZ (kind b) (pos 2)) begins (cond lives goesOn begins)))) is-0 in
-    let w = m .lift .ensures ∙ sym (ap (λ z. stayed z (was b) (row b)) is-0) in
-    counted b (m .lift .result) w no (c .before .differ .result) (c .before .differ .ensures) (c .with-slot .result) (c .with-slot .ensures)
-
-begins-requires : tie.Need-begins-requires Inv-loop μ-loop
-begins-requires c κs = search needs
-
-give-ids-requires : tie.Need-give-ids-requires Inv-loop μ-loop
-give-ids-requires c κs =
-    let b = asked (c .before) .before in
-    let p = start b .pre in
-    (record { few = p .0; inside = known b .inside; counts = p .1; size = p .2; plain = known b .plain }, p .4, known b .tells)
-
-returns : tie.Need-returns Inv-loop μ-loop
-returns c =
-    let b = asked (c .before .before) .before in
-    record { plan = c .give-ids .ensures .plan ∙ sym (known b .whole); tells = c .give-ids .ensures .tells }
+    let no-contact = ap (λ z. begun (cond z none (cond (eqZ (kind b) (pos 2)) begins (cond lives goesOn begins)))) is-0 in
+    let slot = ap slotOf (m .lift .ensures) ∙ sym (ap (λ z. slotAfter (cond z none (cond (eqZ (kind b) (pos 2)) begins (cond lives goesOn begins))) (given b) (slotOf (was b)) (numbersOf (row b))) is-0) in
+    counted b (m .lift .result) slot no-contact (or-true _ _ is-0) (c .before .differ .result) (c .before .differ .ensures) (c .with-slot .result) (c .with-slot .ensures)
 
 contact-requires : tie.Need-contact-requires Inv-loop μ-loop
 contact-requires c κs = search needs
@@ -266,48 +366,109 @@ contact-requires c κs = search needs
 differ-requires-2 : tie.Need-differ-requires-2 Inv-loop μ-loop
 differ-requires-2 c κs = search needs
 
+same-requires-2 : tie.Need-same-requires-2 Inv-loop μ-loop
+same-requires-2 c κs = search needs
+
+same-requires-3 : tie.Need-same-requires-3 Inv-loop μ-loop
+same-requires-3 c κs = search needs
+
 add-s-2 : tie.Need-add-s-2 Inv-loop μ-loop
-add-s-2 c = search needs
+add-s-2 c =
+    let b = here (calm c) in
+    omega (arith, below b, few b)
 
 loop-less-2 : tie.Need-loop-less-2 Inv-loop μ-loop
-loop-less-2 c = search needs
+loop-less-2 c = omega (arith, below (here (calm c)))
 
 loop-again-2 : tie.Need-loop-again-2 Inv-loop μ-loop
 loop-again-2 c =
-    let g = c .before in
-    quiet (moved g) (g .before .contact .result) (on g) (not-begun g) (sym (g .differ2 .ensures .1) ∙ c .if3 .taken)
+    let lives = c .before .before in
+    let kinds = lives .before .before in
+    let d = calm c in
+    let b = here d in
+    let pressed = and-right ((eqb (d .differ2 .result) 0 && kinds .same2 .result) && not (lives .same3 .result)) _ (c .if2 .taken) in
+    let others = and-left ((eqb (d .differ2 .result) 0 && kinds .same2 .result) && not (lives .same3 .result)) _ (c .if2 .taken) in
+    let alive = sym (ap not (id-read lives)) ∙ and-right (eqb (d .differ2 .result) 0 && kinds .same2 .result) _ others in
+    let first = and-left (eqb (d .differ2 .result) 0 && kinds .same2 .result) _ others in
+    let k1 = sym (kind-read-1 kinds) ∙ and-right (eqb (d .differ2 .result) 0) _ first in
+    let zero = eqb→eq (d .differ2 .result) 0 (holds _ (and-left (eqb (d .differ2 .result) 0) _ first)) in
+    let fits = subst Of32 (lent b .row-at .ensures) (fitting (lent b)) in
+    let rests = resting (u b) (was b) (was-good b) (good-setup b) (fr b) (perSlot * s b) fits k1 alive pressed (same-by (was b) (row b) (as-was d zero)) in
+    let told = told-on (old b) (t b) (s b) (in-old b) (inside b) (changed b) (known b .tells) in
+    turned b (was b) (rests .slot (given b)) (rests .goes) (rests .good) (t b) (sym (set-getD (t b) (s b) blank)) (changed b) told
 
-mul-t-2 : tie.Need-mul-t-2 Inv-loop μ-loop
-mul-t-2 c = search needs
+begins-requires : tie.Need-begins-requires Inv-loop μ-loop
+begins-requires c κs = search needs
 
-array-set-from-t-2 : tie.Need-array-set-from-t-2 Inv-loop μ-loop
-array-set-from-t-2 c = search needs
+give-ids-requires : tie.Need-give-ids-requires Inv-loop μ-loop
+give-ids-requires c κs =
+    let b = here (loud (unrest (c .before))) in
+    record { given = start b .pre .given; inside = known b .inside; tells = known b .tells }
 
-with-slot-requires-2 : tie.Need-with-slot-requires-2 Inv-loop μ-loop
-with-slot-requires-2 c κs =
-    let b = moved (c .before) in
-    (omega (arith, below b, start b .pre .0), c .before .differ2 .ensures .0, known b .tells .before)
+returns : tie.Need-returns Inv-loop μ-loop
+returns c =
+    let b = here (loud (unrest (c .before .before))) in
+    let k = start b .args .counter in
+    subst (λ v. PlansBy v (n b) (old b) k (plan b) (c .give-ids .result)) (sym (known b .good))
+    (subst (λ p. PlansBy (rowsGood (u b) (fr b) (s b)) (n b) (old b) k p (c .give-ids .result)) (sym (known b .whole)) (c .give-ids .ensures))
 
-add-s-3 : tie.Need-add-s-3 Inv-loop μ-loop
-add-s-3 c =
-    let b = moved (c .before .before) in
-    omega (arith, below b, start b .pre .0)
+row-ok-requires : tie.Need-row-ok-requires Inv-loop μ-loop
+row-ok-requires c κs =
+    let b = here (loud (unrest (c .before))) in
+    let m = small (u b) (good-setup b) in
+    record { x = omega (arith, m .x); y = omega (arith, m .y); pressure = omega (arith, m .pressure); major = omega (arith, m .major); minor = omega (arith, m .minor) }
 
-loop-less-3 : tie.Need-loop-less-3 Inv-loop μ-loop
-loop-less-3 c = search needs
-
-loop-again-3 : tie.Need-loop-again-3 Inv-loop μ-loop
-loop-again-3 c =
-    let g = c .before .before in
-    counted (moved g) (g .before .contact .result) (on g) (not-begun g) (g .differ2 .result) (g .differ2 .ensures) (c .with-slot2 .result) (c .with-slot2 .ensures)
+refused-requires : tie.Need-refused-requires Inv-loop μ-loop
+refused-requires c κs = search needs
 
 returns-2 : tie.Need-returns-2 Inv-loop μ-loop
 returns-2 c =
+    let j = c .before .before in
+    let b = here (moved j) in
+    let bad = known b .good ∙ Turn.good-turn (fr b) (s b) (n b) (below b) (u b) ∙ first-false _ _ (sym (row-judged j) ∙ not-true (j .row-ok .result) (c .before .if4 .taken)) in
+    subst (λ v. PlansBy v (n b) (old b) (start b .args .counter) (plan b) (c .refused .result)) (sym bad) (c .refused .ensures)
+
+mul-t-2 : tie.Need-mul-t-2 Inv-loop μ-loop
+mul-t-2 c =
+    let b = here (moved (c .before)) in
+    omega (arith, below b, few b)
+
+array-set-from-t-2 : tie.Need-array-set-from-t-2 Inv-loop μ-loop
+array-set-from-t-2 c =
+    let b = here (moved (c .before)) in
+    omega (arith, below b, few b)
+
+with-changed-requires : tie.Need-with-changed-requires Inv-loop μ-loop
+with-changed-requires c κs =
+    let d = moved (c .before) in
+    let b = here d in
+    (omega (arith, below b, few b), d .differ2 .ensures .0, omega (arith, some c), known b .tells .before)
+
+add-s-3 : tie.Need-add-s-3 Inv-loop μ-loop
+add-s-3 c =
+    let b = here (moved (c .before .before)) in
+    omega (arith, below b, few b)
+
+loop-less-3 : tie.Need-loop-less-3 Inv-loop μ-loop
+loop-less-3 c = omega (arith, below (here (moved (c .before .before))))
+
+loop-again-3 : tie.Need-loop-again-3 Inv-loop μ-loop
+loop-again-3 c =
+    let e = c .before in
+    let d = moved (e .before) in
+    counted (here d) (d .before .contact .result) (on-slot e) (not-begun (e .before)) (good-row e) (d .differ2 .result) (d .differ2 .ensures) (c .with-changed .result) (c .with-changed .ensures)
+
+returns-3 : tie.Need-returns-3 Inv-loop μ-loop
+returns-3 c =
     let l = c .before .loop in
     let a = c .before .before .before .args in
-    let end : l .s ≡ a .n = omega (arith, l .inv .inside, c .loop-test .left) in
-    let made = Turn.no-row (ids (tableOf (a .old))) (a .counter) (a .n) (a .frame .now) (l .t) (l .s) (c .loop-test .left) in
-    record { plan = sym (l .inv .whole ∙ made); tells = rw end at (l .inv .tells) }
+    let n = a .setup .n in
+    let end : l .s ≡ n = omega (arith, l .inv .inside, c .loop-test .left) in
+    let z : n - l .s ≡ 0 = omega (arith, end) in
+    let over = ap (λ k. goodRows (axesOf (a .setup)) (rowsFrom perSlot k (a .frame .now) (perSlot * l .s))) z ∙ ap (goodRows (axesOf (a .setup))) (rows-none perSlot (a .frame .now) (perSlot * l .s)) in
+    let made = Turn.no-row (ids (tableOf (a .old))) (a .counter) n (a .frame .now) (l .t) (l .s) (c .loop-test .left) in
+    subst (λ v. PlansBy v n (a .old) (a .counter) (framed (a .counter) (rowsFrom perSlot n (a .frame .now) 0) (tableOf (a .old))) (record { table = l .t; counter = a .counter; changes = l .changes; good = true }))
+    (sym (l .inv .good ∙ over)) (record { plan = sym (l .inv .whole ∙ made); tells = rw end at (l .inv .tells); good = refl })
 
 pub plan-frame-spec : {M : Type 1} → statement M
 plan-frame-spec =
@@ -330,18 +491,23 @@ plan-frame-spec =
     add-s
     loop-less
     loop-again
-    begins-requires
-    give-ids-requires
-    returns
     contact-requires
     differ-requires-2
+    same-requires-2
+    same-requires-3
     add-s-2
     loop-less-2
     loop-again-2
+    begins-requires
+    give-ids-requires
+    returns
+    row-ok-requires
+    refused-requires
+    returns-2
     mul-t-2
     array-set-from-t-2
-    with-slot-requires-2
+    with-changed-requires
     add-s-3
     loop-less-3
     loop-again-3
-    returns-2)
+    returns-3)

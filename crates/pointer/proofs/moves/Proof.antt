@@ -1,6 +1,6 @@
 -- `pointer::moves` are the ranks after a frame, and what the display is to be told. The loop has taken i ids out of both tables. Assumes nothing.
-use mathlib.Core.Path.{_≡_, refl, sym, ap, ap₂, _∙_, subst}
-use Prim.Native.Nat.{ℕ, _≤_, _<_, _-_}
+use mathlib.Core.Path.{_≡_, sym, ap, ap₂, _∙_, subst}
+use Prim.Native.Nat.{_≤_, _<_, _-_}
 use native.Mathlib.Omega.{arith}
 use lib.Dec.{T}
 use lib.ListN.{length, getD}
@@ -9,22 +9,27 @@ use mir.Val.{SFits}
 use mir.ValLaws.{toZ-ofZ}
 use Rattle.model.specs.Panel.{records}
 use Rattle.model.specs.Table.{ids}
-use Rattle.model.specs.Ranks.{goodRanks, ranksAfter}
+use Rattle.model.specs.Ranks.{liveCount, goodRanks, ranksAfter}
+use Rattle.model.specs.Pointer.{touchOf, toolOf}
+use Rattle.model.proofs.Bools.{holds}
+use Rattle.model.proofs.Tables.{eqSlot→eq}
 use Rattle.panel.specs.Seen.{tableOf, blank}
 use Rattle.pointer.specs.Seen.{pointerOf, fatesBy}
-use Rattle.pointer.specs.Moved.{Idle, ranksBy, shownOf}
+use Rattle.pointer.specs.Moved.{Idle, oldestOr0, ranksBy, shownOf, placedAt}
 use Rattle.pointer.proofs.Turns.{Copied, copied-start, copied-turn, copied-over}
 use Rattle.pointer.proofs.Ranked.{rank-at-small}
-use Rattle.pointer.proofs.Numbers.{shown-is}
+use Rattle.pointer.proofs.Numbers.{placed-shown, shown-is}
+use Rattle.pointer.proofs.Kept.{ranks-kept}
+use Rattle.pointer.proofs.Covered.{changed-covers}
 use borrow.Author.Needs.{needs}
 use Rattle.pointer.proofs.moves.Statement.{statement}
 use Rattle.pointer.proofs.moves.Tie as tie
 
 abbrev Inv-loop : tie.InvT-loop
-Inv-loop n ranks told old new was₀ is₀ i₀ was is i = (i ≤ n) × Copied n old was i × Copied n new is i
+Inv-loop n slots last old new was₀ is₀ i₀ was is i = (i ≤ n) × Copied n old was i × Copied n new is i
 
 abbrev μ-loop : tie.MeasureT-loop
-μ-loop n ranks told old new was₀ is₀ i₀ was is i = n - i
+μ-loop n slots last old new was₀ is₀ i₀ was is i = n - i
 
 -- ---- places
 
@@ -46,25 +51,40 @@ is-own c =
     let at : l .i ≡ s .args .n = omega arith in
     copied-over (s .args .n) (s .args .t3) (l .is) (s .pre .made) (subst (λ i. Copied (s .args .n) (s .args .t3) (l .is) i) at (l .inv .2))
 
-abbrev Ranks : Type 0
-Ranks = tie.After-next-ranks Inv-loop μ-loop
-
-abbrev over : Ranks → Over
-over k = k .before .before .before
-
--- The ranks that are made are those after the frame, and good.
-made : (k : Ranks) → (let a = over k .before .before .args in k .next-ranks .result ≡ ranksBy (a .t2) (a .t3) (a .ranks))
-made k =
-    let a = over k .before .before .args in
-    k .next-ranks .ensures ∙ ap₂ (λ x y. ranksAfter (fatesBy x y) (a .ranks)) (was-own (over k) .0) (is-own (over k) .0)
-
-good : (k : Ranks) → T (goodRanks (over k .before .loop .is) (k .next-ranks .result))
-good k =
-    let s = over k .before .before in
-    subst (λ l. T (goodRanks l (k .next-ranks .result))) (sym (is-own (over k) .0)) (subst (λ r. T (goodRanks (ids (tableOf (s .args .t3))) r)) (sym (made k)) (s .pre .after))
+full-old : (s : tie.Start Inv-loop μ-loop) → length (s .args .t2) ≡ records
+full-old s = search needs
 
 full : (s : tie.Start Inv-loop μ-loop) → length (s .args .t3) ≡ records
 full s = search needs
+
+-- The ranks before the frame are good beside the ids, and as many.
+old-good : (c : Over) → T (goodRanks (c .before .loop .was) (c .before .before .args .last .ranks))
+old-good c = let s = c .before .before in subst (λ l. T (goodRanks l (s .args .last .ranks))) (sym (was-own c .0)) (s .pre .before)
+
+ranked : (c : Over) → length (c .before .before .args .last .ranks) ≡ records
+ranked c = search needs
+
+-- Where it is known whether the ids stay.
+abbrev over : tie.After-ids-stay Inv-loop μ-loop → Over
+over k = k .before .before .before .before .before
+
+abbrev Ranks : Type 0
+Ranks = tie.After-ranks-after Inv-loop μ-loop
+
+-- Where they do not.
+abbrev apart : Ranks → Over
+apart k = over (k .before .before .before .before .before)
+
+-- The ranks that are made then are those after the frame, and good.
+made : (k : Ranks) → (let a = apart k .before .before .args in k .ranks-after .result ≡ ranksBy (a .t2) (a .t3) (a .last .ranks))
+made k =
+    let a = apart k .before .before .args in
+    k .ranks-after .ensures ∙ ap₂ (λ x y. ranksAfter (fatesBy x y) (a .last .ranks)) (was-own (apart k) .0) (is-own (apart k) .0)
+
+good : (k : Ranks) → T (goodRanks (apart k .before .loop .is) (k .ranks-after .result))
+good k =
+    let s = apart k .before .before in
+    subst (λ l. T (goodRanks l (k .ranks-after .result))) (sym (is-own (apart k) .0)) (subst (λ r. T (goodRanks (ids (tableOf (s .args .t3))) r)) (sym (made k)) (s .pre .after))
 
 -- ---- the needs
 
@@ -117,23 +137,20 @@ loop-again c =
     let few = s .pre .held .few in
     rw (toZ-ofZ w32 u f, toZ-ofZ w32 v g) (search needs, copied-turn (a .n) (a .t2) (l .was) (l .i) (l .inv .1) inside few lo, copied-turn (a .n) (a .t3) (l .is) (l .i) (l .inv .2) inside few ln)
 
-slice-aggregate-next-ranks : tie.Need-slice-aggregate-next-ranks Inv-loop μ-loop
-slice-aggregate-next-ranks c = search needs
+slice-aggregate-ids-stay : tie.Need-slice-aggregate-ids-stay Inv-loop μ-loop
+slice-aggregate-ids-stay c = search needs
 
-slice-aggregate-next-ranks-2 : tie.Need-slice-aggregate-next-ranks-2 Inv-loop μ-loop
-slice-aggregate-next-ranks-2 c = search needs
+slice-aggregate-ids-stay-2 : tie.Need-slice-aggregate-ids-stay-2 Inv-loop μ-loop
+slice-aggregate-ids-stay-2 c = search needs
 
-next-ranks-requires : tie.Need-next-ranks-requires Inv-loop μ-loop
-next-ranks-requires c κs =
-    let e = c .before .before in
+ids-stay-requires : tie.Need-ids-stay-requires Inv-loop μ-loop
+ids-stay-requires c κs =
+    let e = c .before .before .before .before in
     let s = e .before .before in
+    let a = s .args in
     let l = e .before .loop in
-    let rs = s .args .ranks in
-    let g = subst (λ k. T (goodRanks k rs)) (sym (was-own e .0)) (s .pre .before) in
-    let full : length rs ≡ records = search needs in (
-      record { before = was-own e .1 .whole; after = is-own e .1 .whole; ranked = full; small = λ i h. omega (arith, full, rank-at-small (l .was) rs i g (omega arith)) },
-      g,
-    )
+    let covers = changed-covers (a .t2) (a .t3) (a .slots) (l .was) (l .is) (full-old s) (full s) (s .pre .changed) (was-own e .0) (is-own e .0) in
+    (was-own e .1 .whole, is-own e .1 .whole, covers)
 
 slice-aggregate-oldest-slot : tie.Need-slice-aggregate-oldest-slot Inv-loop μ-loop
 slice-aggregate-oldest-slot c = search needs
@@ -143,6 +160,70 @@ slice-aggregate-oldest-slot-2 c = search needs
 
 oldest-slot-requires : tie.Need-oldest-slot-requires Inv-loop μ-loop
 oldest-slot-requires c κs = search needs
+
+mul-placed : tie.Need-mul-placed Inv-loop μ-loop
+mul-placed c = search needs
+
+array-copy-out-placed : tie.Need-array-copy-out-placed Inv-loop μ-loop
+array-copy-out-placed c = search needs
+
+placed-requires : tie.Need-placed-requires Inv-loop μ-loop
+placed-requires c κs = search needs
+
+returns : tie.Need-returns Inv-loop μ-loop
+returns c =
+    let oldest = c .before .before in
+    let t = oldest .before .before .before in
+    let k = t .before in
+    let e = over k in
+    let s = e .before .before in
+    let l = e .before .loop in
+    let a = s .args in
+    let rs = a .last .ranks in
+    let q = pointerOf (a .last .told) in
+    let own = is-own e in
+    let m = liveCount (l .is) in
+    let same : l .was ≡ l .is = eqSlot→eq (l .was) (l .is) (holds _ (sym (k .ids-stay .ensures) ∙ t .if1 .taken)) in
+    let stay : ids (tableOf (a .t2)) ≡ l .is = sym (was-own e .0) ∙ same in
+    let kept = ap (λ x. ranksAfter (fatesBy (l .was) x) rs) (sym same) ∙ ranks-kept (l .was) rs (was-own e .1 .whole) (old-good e) in
+    let touch = ap (λ p. p .touch) (s .pre .shown) ∙ ap (λ x. touchOf (liveCount x)) stay in
+    let tool = ap (λ p. p .tool) (s .pre .shown) ∙ ap (λ x. toolOf (liveCount x)) stay in
+    record {
+      ranks = sym kept ∙ ap₂ (λ x y. ranksAfter (fatesBy x y) rs) (was-own e .0) (own .0);
+      told =
+          c .placed .ensures ∙ ap (λ i. placedAt (getD (a .t3) i blank) q) (oldest .oldest-slot .ensures .1)
+          ∙ placed-shown m (getD (a .t3) (oldestOr0 (l .is) rs) blank) q touch tool
+          ∙ shown-is (a .t3) rs q (full s) (l .is) (own .0) (own .1 .whole) (subst (λ x. T (goodRanks x rs)) same (old-good e));
+    }
+
+slice-aggregate-ranks-after : tie.Need-slice-aggregate-ranks-after Inv-loop μ-loop
+slice-aggregate-ranks-after c = search needs
+
+slice-aggregate-ranks-after-2 : tie.Need-slice-aggregate-ranks-after-2 Inv-loop μ-loop
+slice-aggregate-ranks-after-2 c = search needs
+
+slice-aggregate-ranks-after-3 : tie.Need-slice-aggregate-ranks-after-3 Inv-loop μ-loop
+slice-aggregate-ranks-after-3 c = search needs
+
+ranks-after-requires : tie.Need-ranks-after-requires Inv-loop μ-loop
+ranks-after-requires c κs =
+    let k = c .before .before .before .before in
+    let e = over k in
+    let rs = e .before .before .args .last .ranks in
+    let g = old-good e in
+    let n = ranked e in (
+      record { before = was-own e .1 .whole; after = is-own e .1 .whole; ranked = n; small = λ i h. omega (arith, n, rank-at-small (e .before .loop .was) rs i g (omega arith)) },
+      g,
+    )
+
+slice-aggregate-oldest-slot-3 : tie.Need-slice-aggregate-oldest-slot-3 Inv-loop μ-loop
+slice-aggregate-oldest-slot-3 c = search needs
+
+slice-aggregate-oldest-slot-4 : tie.Need-slice-aggregate-oldest-slot-4 Inv-loop μ-loop
+slice-aggregate-oldest-slot-4 c = search needs
+
+oldest-slot-requires-2 : tie.Need-oldest-slot-requires-2 Inv-loop μ-loop
+oldest-slot-requires-2 c κs = search needs
 
 slice-aggregate-live-count : tie.Need-slice-aggregate-live-count Inv-loop μ-loop
 slice-aggregate-live-count c = search needs
@@ -159,19 +240,20 @@ array-copy-out-pointed c = search needs
 pointed-requires : tie.Need-pointed-requires Inv-loop μ-loop
 pointed-requires c κs = search needs
 
-returns : tie.Need-returns Inv-loop μ-loop
-returns c =
+returns-2 : tie.Need-returns-2 Inv-loop μ-loop
+returns-2 c =
     let live = c .before .before in
     let oldest = live .before .before in
     let k = oldest .before .before .before in
-    let a = over k .before .before .args in
-    let q = pointerOf (a .told) in
-    let own = is-own (over k) in
+    let e = apart k in
+    let a = e .before .before .args in
+    let q = pointerOf (a .last .told) in
+    let own = is-own e in
     record {
       ranks = made k;
       told =
-          c .pointed .ensures ∙ ap₂ (λ m i. shownOf m (getD (a .t3) i blank) q) (live .live-count .ensures .0) (oldest .oldest-slot .ensures .1)
-          ∙ shown-is (a .t3) (k .next-ranks .result) q (full (over k .before .before)) (over k .before .loop .is) (own .0) (own .1 .whole) (good k);
+          c .pointed .ensures ∙ ap₂ (λ m i. shownOf m (getD (a .t3) i blank) q) (live .live-count .ensures .0) (oldest .oldest-slot2 .ensures .1)
+          ∙ shown-is (a .t3) (k .ranks-after .result) q (full (e .before .before)) (e .before .loop .is) (own .0) (own .1 .whole) (good k);
     }
 
 pub moves-spec : {M : Type 1} → statement M
@@ -192,15 +274,26 @@ moves-spec =
     add-i
     loop-less
     loop-again
-    slice-aggregate-next-ranks
-    slice-aggregate-next-ranks-2
-    next-ranks-requires
+    slice-aggregate-ids-stay
+    slice-aggregate-ids-stay-2
+    ids-stay-requires
     slice-aggregate-oldest-slot
     slice-aggregate-oldest-slot-2
     oldest-slot-requires
+    mul-placed
+    array-copy-out-placed
+    placed-requires
+    returns
+    slice-aggregate-ranks-after
+    slice-aggregate-ranks-after-2
+    slice-aggregate-ranks-after-3
+    ranks-after-requires
+    slice-aggregate-oldest-slot-3
+    slice-aggregate-oldest-slot-4
+    oldest-slot-requires-2
     slice-aggregate-live-count
     live-count-requires
     mul-pointed
     array-copy-out-pointed
     pointed-requires
-    returns)
+    returns-2)

@@ -1,10 +1,11 @@
 -- `send::put_display` writes the tools, and X and Y. Assumes nothing.
+use mathlib.Core.Path.{_∙_}
 use mathlib.Core.List.{List}
 use Prim.Native.Nat.{ℕ}
 use native.Mathlib.Omega.{arith}
 use lib.ListN.{length-append}
-use Rattle.records.proofs.Over.{two-start, two-room, two-put, two-sum}
 use Rattle.send.specs.Told.{toolBytes, placeBytes}
+use Rattle.send.proofs.Parts.{Begun, begins}
 use borrow.Author.Needs.{needs}
 use Rattle.send.proofs.put_display.Statement.{statement}
 use Rattle.send.proofs.put_display.Tie as tie
@@ -15,57 +16,35 @@ A s = toolBytes (s .args .q) (s .args .z)
 abbrev B : tie.Start → List ℕ
 B s = placeBytes (s .args .q) (s .args .z)
 
+abbrev start : tie.After-put-tools → tie.Start
+start c = c .before .before .before
+
+begun : (c : tie.After-put-tools) → (let s = start c in
+    Begun (s .args .at) (c .put-tools .result) (A s) (B s) (s .args .b .now) (c .put-tools .last .0))
+begun c = begins (c .put-tools .ensures .0) (c .put-tools .ensures .1) (start c .pre)
+
 put-tools-requires : tie.Need-put-tools-requires
 put-tools-requires c κs =
     let s = c .before .before in
     omega (arith, length-append (A s) (B s), s .pre)
 
-sub-put-place : tie.Need-sub-put-place
-sub-put-place c =
-    let s = c .before .before .before .before .before in
-    let p = c .before .before .put-tools in
-    two-start (A s) (B s) (s .args .b .now) (p .last .0) (p .result) (p .ensures .0) (p .ensures .1)
-
-part-put-place-start : tie.Need-part-put-place-start
-part-put-place-start c = sub-put-place c
-
-part-put-place-end : tie.Need-part-put-place-end
-part-put-place-end c = search needs
-
 put-place-requires : tie.Need-put-place-requires
-put-place-requires c κs =
-    let s = c .before .before .before .before .before .before in
-    let p = c .before .before .before .put-tools in
-    two-room (A s) (B s) (s .args .b .now) (p .last .0) (p .result) (p .ensures .0) (p .ensures .1) (s .pre)
-
-add-result : tie.Need-add-result
-add-result c =
-    let s = c .before .before .before .before .before .before .before .before .before in
-    let p = c .before .before .before .before .before .before .put-tools in
-    let n = c .before .before .put-place in
-    omega (arith, two-sum (A s) (B s) (p .result) (n .result) (p .ensures .0) (n .ensures .0), s .pre, s .good)
+put-place-requires c κs = begun (c .before .before .before) .room
 
 same-length : tie.Need-same-length
 same-length c = search needs
 
 returns : tie.Need-returns
 returns c =
-    let s = c .before .before .before .before .before .before .before .before .before in
-    let p = c .before .before .before .before .before .before .put-tools in
-    let n = c .before .before .put-place in (
-      two-sum (A s) (B s) (p .result) (n .result) (p .ensures .0) (n .ensures .0),
-      two-put (A s) (B s) (s .args .b .now) (p .last .0) (p .result) (p .ensures .0) (p .ensures .1) (n .last .0) (n .ensures .1),
-    )
+    let n = c .before .before .put-place in
+    let first = begun (c .before .before .before .before .before .before) in
+    (n .ensures .0 ∙ first .ends, n .ensures .1 ∙ first .bytes)
 
 pub put-display-spec : {M : Type 1} → statement M
 put-display-spec =
     tie.close
     (tie.spec
     put-tools-requires
-    sub-put-place
-    part-put-place-start
-    part-put-place-end
     put-place-requires
-    add-result
     same-length
     returns)

@@ -1,15 +1,16 @@
 -- `send::put_opened` writes a slot's number and then its changed numbers. Assumes nothing.
-use mathlib.Core.Path.{_≡_, sym}
+use mathlib.Core.Path.{_≡_, sym, ap, _∙_}
 use mathlib.Core.List.{List, _∷_, _++_}
-use Prim.Native.Nat.{ℕ, _≤_}
+use Prim.Native.Nat.{ℕ, _+_, _-_, _≤_}
 use native.Mathlib.Omega.{arith}
 use lib.ListN.{length, length-append}
+use borrow.Rule.Slice.PartMut.{putMid}
 use Rattle.model.specs.Records.{recordBytes}
 use Rattle.model.specs.Sending.{sendSlot, changes}
 use Rattle.panel.specs.Seen.{slotOf}
-use Rattle.records.proofs.Over.{record-length, two-start, two-room, two-put, two-sum}
+use Rattle.records.proofs.Over.{record-length, lay-put}
 use Rattle.send.specs.Sent.{bytesSent}
-use Rattle.send.proofs.Parts.{opened-bytes}
+use Rattle.send.proofs.Parts.{opened-bytes, record-room, Begun, begins}
 use borrow.Author.Needs.{needs}
 use Rattle.send.proofs.put_opened.Statement.{statement}
 use Rattle.send.proofs.put_opened.Tie as tie
@@ -20,70 +21,74 @@ A s = recordBytes 3 0x2f (s .args .s .0)
 abbrev B : tie.Start → List ℕ
 B s = bytesSent (changes 0 (slotOf (s .args .old)) (slotOf (s .args .new)))
 
-eight : (s : tie.Start) → 8 ≡ length (A s)
-eight s = sym (record-length 3 0x2f (s .args .s .0))
+eight : (s : tie.Start) → length (A s) ≡ 8
+eight s = record-length 3 0x2f (s .args .s .0)
 
 whole : (s : tie.Start) → bytesSent (sendSlot (s .args .s .0) ∷ changes 0 (slotOf (s .args .old)) (slotOf (s .args .new))) ≡ A s ++ B s
 whole s = opened-bytes (s .args .s .0) (changes 0 (slotOf (s .args .old)) (slotOf (s .args .new)))
 
-room : (s : tie.Start) → length (A s ++ B s) ≤ length (s .args .b .now)
+room : (s : tie.Start) → s .args .at + length (A s ++ B s) ≤ length (s .args .b .now)
 room s = rw (whole s) at (s .pre .1)
+
+fits : (s : tie.Start) → s .args .at + 8 ≤ length (s .args .b .now)
+fits s = omega (arith, length-append (A s) (B s), room s, eight s)
+
+-- Where the number is written, and the buffer then.
+abbrev start : tie.After-put → tie.Start
+start c = c .before .before .before .before
+
+abbrev W : tie.After-put → List ℕ
+W c = let a = start c .args in putMid (a .at) (length (a .b .now) - a .at) (a .b .now) (c .put .last .0)
+
+begun : (c : tie.After-put) → (let s = start c in
+    Begun (s .args .at) (s .args .at + 8) (A s) (B s) (s .args .b .now) (W c))
+begun c =
+    let s = start c in
+    let a = s .args in
+    begins (ap (λ n. a .at + n) (sym (eight s))) (lay-put (a .at) (A s) (a .b .now) (c .put .last .0) (omega (arith, fits s)) (c .put .ensures)) (room s)
 
 cast-number : tie.Need-cast-number
 cast-number c = search needs
 
+sub-put : tie.Need-sub-put
+sub-put c = search needs
+
+part-put-start : tie.Need-part-put-start
+part-put-start c = search needs
+
+part-put-end : tie.Need-part-put-end
+part-put-end c = search needs
+
 put-requires : tie.Need-put-requires
 put-requires c κs =
     let s = c .before .before .before in
-    omega (arith, length-append (A s) (B s), room s, eight s)
+    record-room (s .args .at) (s .args .b .now) (fits s)
 
-sub-put-changes : tie.Need-sub-put-changes
-sub-put-changes c =
-    let s = c .before .before .before .before .before .before in
-    let p = c .before .before .put in
-    two-start (A s) (B s) (s .args .b .now) (p .last .0) 8 (eight s) (p .ensures)
-
-part-put-changes-start : tie.Need-part-put-changes-start
-part-put-changes-start c = sub-put-changes c
-
-part-put-changes-end : tie.Need-part-put-changes-end
-part-put-changes-end c = search needs
+add-put-changes : tie.Need-add-put-changes
+add-put-changes c = search needs
 
 put-changes-requires : tie.Need-put-changes-requires
-put-changes-requires c κs =
-    let s = c .before .before .before .before .before .before .before in
-    let p = c .before .before .before .put in
-    two-room (A s) (B s) (s .args .b .now) (p .last .0) 8 (eight s) (p .ensures) (room s)
-
-add-result : tie.Need-add-result
-add-result c =
-    let s = c .before .before .before .before .before .before .before .before .before .before in
-    let q = c .before .before .put-changes in
-    omega (arith, two-sum (A s) (B s) 8 (q .result) (eight s) (q .ensures .0), room s, s .good)
+put-changes-requires c κs = begun (c .before .before .before) .room
 
 same-length : tie.Need-same-length
 same-length c = search needs
 
 returns : tie.Need-returns
 returns c =
-    let s = c .before .before .before .before .before .before .before .before .before .before in
-    let p = c .before .before .before .before .before .before .put in
-    let q = c .before .before .put-changes in
-    rw (whole s) (
-      two-sum (A s) (B s) 8 (q .result) (eight s) (q .ensures .0),
-      two-put (A s) (B s) (s .args .b .now) (p .last .0) 8 (eight s) (p .ensures) (q .last .0) (q .ensures .1),
-    )
+    let n = c .before .before .put-changes in
+    let p = c .before .before .before .before .before .before in
+    rw (whole (start p)) (n .ensures .0 ∙ begun p .ends, n .ensures .1 ∙ begun p .bytes)
 
 pub put-opened-spec : {M : Type 1} → statement M
 put-opened-spec =
     tie.close
     (tie.spec
     cast-number
+    sub-put
+    part-put-start
+    part-put-end
     put-requires
-    sub-put-changes
-    part-put-changes-start
-    part-put-changes-end
+    add-put-changes
     put-changes-requires
-    add-result
     same-length
     returns)

@@ -1,13 +1,13 @@
 -- `send::send_end` writes the tools, X and Y, and the report. Assumes nothing.
-use mathlib.Core.Path.{_≡_, refl, sym, ap, _∙_}
+use mathlib.Core.Path.{_∙_}
 use mathlib.Core.List.{List, _++_}
-use Prim.Native.Nat.{ℕ, _+_, _-_, _≤_}
+use Prim.Native.Nat.{ℕ, _+_, _≤_}
 use native.Mathlib.Omega.{arith}
-use lib.ListN.{length, length-append, length-drop}
-use borrow.Rule.Slice.PartMut.{putMid}
+use lib.ListN.{length, length-append}
 use Rattle.model.specs.Records.{recordBytes}
-use Rattle.records.proofs.Over.{record-length, rest-all, lay-put, turn-room, turn-more, turn-lay}
+use Rattle.records.proofs.Over.{record-length, lay-put}
 use Rattle.send.specs.Told.{toolBytes, placeBytes}
+use Rattle.send.proofs.Parts.{record-room, Begun, begins}
 use borrow.Author.Needs.{needs}
 use Rattle.send.proofs.send_end.Statement.{statement}
 use Rattle.send.proofs.send_end.Tie as tie
@@ -19,78 +19,49 @@ A s = toolBytes (s .args .q) (s .args .z) ++ placeBytes (s .args .q) (s .args .z
 abbrev R : List ℕ
 R = recordBytes 0 0 0
 
-sub-put-display : tie.Need-sub-put-display
-sub-put-display c = search needs
+abbrev start : tie.After-put-display → tie.Start
+start c = c .before .before .before
 
-part-put-display-start : tie.Need-part-put-display-start
-part-put-display-start c = search needs
+begun : (c : tie.After-put-display) → (let s = start c in
+    Begun (s .args .at) (c .put-display .result) (A s) R (s .args .b .now) (c .put-display .last .0))
+begun c = begins (c .put-display .ensures .0) (c .put-display .ensures .1) (start c .pre)
 
-part-put-display-end : tie.Need-part-put-display-end
-part-put-display-end c = search needs
+fits : (c : tie.After-put-display) → c .put-display .result + 8 ≤ length (c .put-display .last .0)
+fits c = omega (arith, record-length 0 0 0, begun c .room)
 
 put-display-requires : tie.Need-put-display-requires
 put-display-requires c κs =
     let s = c .before .before in
-    turn-room (s .args .at) (length (A s)) (A s) R (s .args .b .now) (s .args .b .now) refl (s .pre)
-
-add-end : tie.Need-add-end
-add-end c =
-    let s = c .before .before .before .before .before in
-    let p = c .before .before .put-display in
-    omega (arith, p .ensures .0, length-append (A s) R, s .pre, s .good)
-
--- Where the display's events are written.
-abbrev Told : Type 0
-Told = tie.After-slice-known2
-
-abbrev start : Told → tie.Start
-start k = k .before .before .before .before .before
-
-abbrev W : Told → List ℕ
-W k = putMid (start k .args .at) (length (start k .args .b .now) - start k .args .at) (start k .args .b .now) (k .before .before .put-display .last .0)
-
-report-room : (k : Told) → start k .args .at + k .before .before .put-display .result + 8 ≤ length (W k)
-report-room k =
-    let s = start k in
-    let p = k .before .before .put-display in
-    omega (arith, record-length 0 0 0, turn-more (s .args .at) (p .result) (A s) R (s .args .b .now) (p .last .0) (p .ensures .0) (s .pre) (p .ensures .1))
+    omega (arith, length-append (A s) R, s .pre)
 
 sub-put : tie.Need-sub-put
-sub-put c = omega (arith, report-room c)
+sub-put c = omega (arith, fits (c .before .before))
 
 part-put-start : tie.Need-part-put-start
-part-put-start c = omega (arith, report-room c)
+part-put-start c = omega (arith, fits (c .before .before))
 
 part-put-end : tie.Need-part-put-end
 part-put-end c = search needs
 
 put-requires : tie.Need-put-requires
 put-requires c κs =
-    let k = c .before in
-    let at = start k .args .at + k .before .before .put-display .result in
-    rw (rest-all at (W k)) (omega (arith, length-drop at (W k), report-room k))
+    let p = c .before .before .before in
+    record-room (p .put-display .result) (p .put-display .last .0) (fits p)
 
 same-length : tie.Need-same-length
 same-length c = search needs
 
 returns : tie.Need-returns
 returns c =
-    let k = c .before .before .before .before in
-    let s = start k in
-    let p = k .before .before .put-display in
-    let end = s .args .at + p .result in
-    lay-put end R (W k) (c .before .before .put .last .0) (omega (arith, report-room k)) (c .before .before .put .ensures)
-    ∙ sym (turn-lay (s .args .at) (p .result) (A s) R (s .args .b .now) (p .last .0) (p .ensures .0) (s .pre) (p .ensures .1))
+    let n = c .before .before .put in
+    let p = c .before .before .before .before .before .before in
+    lay-put (p .put-display .result) R (p .put-display .last .0) (n .last .0) (omega (arith, fits p)) (n .ensures) ∙ begun p .bytes
 
 pub send-end-spec : {M : Type 1} → statement M
 send-end-spec =
     tie.close
     (tie.spec
-    sub-put-display
-    part-put-display-start
-    part-put-display-end
     put-display-requires
-    add-end
     sub-put
     part-put-start
     part-put-end

@@ -7,7 +7,7 @@ use Prim.Native.Nat.{ℕ, _<_, _≤_, _+_, _-_, _%_, _^_}
 use native.Mathlib.Omega.{arith}
 use lib.Bits.{bitAnd, and-le-r}
 use lib.Count.{trailingZeros}
-use lib.ListN.{length, length-append, take, drop, getD}
+use lib.ListN.{length, length-append, getD}
 use Rattle.model.specs.Panel.{records}
 use Rattle.model.specs.Records.{lay}
 use Rattle.model.specs.Sending.{Sent, changes, lastOpened}
@@ -16,10 +16,9 @@ use Rattle.model.proofs.Follow.{last-append, last-changes}
 use Rattle.model.proofs.Order.{mask-none, mask-next, trailing-below}
 use Rattle.panel.specs.declared.Slot.{Slot}
 use Rattle.panel.specs.Seen.{slotOf, blank}
-use Rattle.records.specs.Seen.{over}
-use Rattle.records.proofs.Over.{lay-nil, turn-start, turn-room, turn-length, turn-more, turn-lay}
+use Rattle.records.proofs.Over.{lay-nil}
 use Rattle.send.specs.Sent.{bytesSent, openedAt, sentBy}
-use Rattle.send.proofs.Parts.{sent-nil, sent-append}
+use Rattle.send.proofs.Parts.{sent-nil, sent-append, Begun, begins}
 use Rattle.send.proofs.send_slots.Statement.{statement}
 use Rattle.send.proofs.send_slots.Tie as tie
 
@@ -37,10 +36,10 @@ record Laid (old new : List Slot) (b₀ : List ℕ) (end₀ m₀ last₀ : ℕ) 
   bytes : lay end₀ (left old new m₀) b₀ ≡ lay end (left old new m) b
 
 abbrev Inv-loop : tie.InvT-loop
-Inv-loop b₀ at others old new c first end₀ m₀ last₀ b end m last = Laid old new b₀ end₀ m₀ last₀ b end m last
+Inv-loop b₀ at others old new c end₀ m₀ last₀ b end m last = Laid old new b₀ end₀ m₀ last₀ b end m last
 
 abbrev μ-loop : tie.MeasureT-loop
-μ-loop b₀ at others old new c first end₀ m₀ last₀ b end m last = m
+μ-loop b₀ at others old new c end₀ m₀ last₀ b end m last = m
 
 -- ---- places
 
@@ -48,11 +47,11 @@ abbrev μ-loop : tie.MeasureT-loop
 abbrev Loop : Type 0
 Loop = tie.At-loop Inv-loop μ-loop
 
-abbrev begun : Loop → tie.After-put-changes Inv-loop μ-loop
-begun l = l .before .before .before
+abbrev current-put : Loop → tie.After-put-changes Inv-loop μ-loop
+current-put l = l .before .before .before
 
 abbrev start : Loop → tie.Start Inv-loop μ-loop
-start l = begun l .before .before .before .before .before
+start l = current-put l .before .before .before .before .before
 
 -- A turn of the loop, and where it has written a slot.
 abbrev Turn : Type 0
@@ -90,6 +89,10 @@ whole s = sent-append (current s) (others s)
 room : (s : tie.Start Inv-loop μ-loop) → s .args .at + length (A s ++ R s) ≤ length (s .args .b .now)
 room s = rw (whole s) at (s .pre .1)
 
+begun : (c : tie.After-put-changes Inv-loop μ-loop) → (let s = c .before .before .before .before .before in
+    Begun (s .args .at) (c .put-changes .result) (A s) (R s) (s .args .b .now) (c .put-changes .last .0))
+begun c = begins (c .put-changes .ensures .0) (c .put-changes .ensures .1) (room (c .before .before .before .before .before))
+
 -- ---- a turn: the lowest set bit's slot, and the other bits
 
 nonzero : (c : Turn) → 0 < c .before .loop .m
@@ -126,6 +129,13 @@ below c = trailing-below records (c .before .loop .m) (nonzero c) (c .before .lo
 place : (c : Turn) → z c % records ≡ z c
 place c = omega (arith, below c)
 
+-- its slot is written
+opened : (p : tie.After-put-opened Inv-loop μ-loop) → (let i = turned p in let l = i .before .loop in
+    Begun (l .end) (p .put-opened .result) (B i) (L i) (l .b) (p .put-opened .last .0))
+opened p =
+    let i = turned p in
+    begins (rw (place i) at (p .put-opened .ensures .0)) (rw (place i) at (p .put-opened .ensures .1)) (more-room i)
+
 -- ---- after the loop: nothing is left
 
 none : (c : tie.After-loop Inv-loop μ-loop) → (let s = start (c .before) in ofMask records (c .before .loop .m) (openedAt (old s) (new s)) ≡ [])
@@ -150,49 +160,19 @@ mul-v c = search needs
 array-copy-out-v : tie.Need-array-copy-out-v Inv-loop μ-loop
 array-copy-out-v c = search needs
 
-sub-put-changes : tie.Need-sub-put-changes Inv-loop μ-loop
-sub-put-changes c =
-    let s = c .before .before .before in
-    turn-start (s .args .at) (length (A s)) (A s) (R s) (s .args .b .now) [] refl (room s)
-
-part-put-changes-start : tie.Need-part-put-changes-start Inv-loop μ-loop
-part-put-changes-start c = sub-put-changes c
-
-part-put-changes-end : tie.Need-part-put-changes-end Inv-loop μ-loop
-part-put-changes-end c = search needs
-
 put-changes-requires : tie.Need-put-changes-requires Inv-loop μ-loop
 put-changes-requires c κs =
     let s = c .before .before .before .before in
-    turn-room (s .args .at) (length (A s)) (A s) (R s) (s .args .b .now) [] refl (room s)
-
-add-end : tie.Need-add-end Inv-loop μ-loop
-add-end c =
-    let s = c .before .before .before .before .before .before .before in
-    let p = c .before .before .put-changes in
-    omega (arith, p .ensures .0, length-append (A s) (R s), room s, s .good)
+    omega (arith, length-append (A s) (R s), room s)
 
 loop-holds : tie.Need-loop-holds Inv-loop μ-loop
-loop-holds c =
-    let s = c .before .before .before .before .before .before .before in
-    let p = c .before .before .put-changes in
-    let more = turn-more (s .args .at) (p .result) (A s) (R s) (s .args .b .now) (p .last .0) (p .ensures .0) (room s) (p .ensures .1) in
-    record { bits = search needs; size = refl; room = more; ends = refl; opened = refl; bytes = refl }
+loop-holds c = record { bits = search needs; size = refl; room = begun (c .before .before) .room; ends = refl; opened = refl; bytes = refl }
 
 cast-s : tie.Need-cast-s Inv-loop μ-loop
 cast-s c = search needs
 
 sub-m : tie.Need-sub-m Inv-loop μ-loop
 sub-m c = search needs
-
-sub-put-opened : tie.Need-sub-put-opened Inv-loop μ-loop
-sub-put-opened c = omega (arith, c .before .loop .inv .room)
-
-part-put-opened-start : tie.Need-part-put-opened-start Inv-loop μ-loop
-part-put-opened-start c = omega (arith, c .before .loop .inv .room)
-
-part-put-opened-end : tie.Need-part-put-opened-end Inv-loop μ-loop
-part-put-opened-end c = search needs
 
 mul-put-opened : tie.Need-mul-put-opened Inv-loop μ-loop
 mul-put-opened c = search needs
@@ -209,19 +189,7 @@ array-copy-out-put-opened-2 c = search needs
 put-opened-requires : tie.Need-put-opened-requires Inv-loop μ-loop
 put-opened-requires c κs =
     let i = c .before .before .before in
-    let l = i .before .loop in
-    rw (place i) (below i, turn-room (l .end) (length (B i)) (B i) (L i) (l .b) [] refl (more-room i))
-
-add-end-2 : tie.Need-add-end-2 Inv-loop μ-loop
-add-end-2 c =
-    let p = c .before .before in
-    let i = turned p in
-    let l = i .before .loop in
-    let s = start (i .before) in
-    let q = begun (i .before) .put-changes in
-    let e : p .put-opened .result ≡ length (B i) = rw (place i) at (p .put-opened .ensures .0) in
-    let n = turn-length (s .args .at) (q .result) (A s) (R s) (s .args .b .now) (q .last .0) (q .ensures .0) (room s) (q .ensures .1) in
-    omega (arith, length-append (B i) (L i), more-room i, l .inv .size, n, s .good)
+    rw (place i) (below i, omega (arith, length-append (B i) (L i), more-room i))
 
 loop-less : tie.Need-loop-less Inv-loop μ-loop
 loop-less c =
@@ -230,24 +198,20 @@ loop-less c =
 
 loop-again : tie.Need-loop-again Inv-loop μ-loop
 loop-again c =
-    let i = turned (c .before .before) in
+    let p = c .before .before in
+    let i = turned p in
     let l = i .before .loop in
     let s = start (i .before) in
-    let p = c .before .before .put-opened in
-    let e : p .result ≡ length (B i) = rw (place i) at (p .ensures .0) in
-    let w : p .last .0 ≡ over (B i) (take (length (l .b) - l .end) (drop (l .end) (l .b))) = rw (place i) at (p .ensures .1) in
     let last = last-changes (z i) 0 (slotOf (getD (old s) (z i) blank)) (slotOf (getD (new s) (z i) blank)) in
     record {
       bits = omega (arith, and-le-r (l .m) (l .m - 1), l .inv .bits);
-      size = turn-length (l .end) (p .result) (B i) (L i) (l .b) (p .last .0) e (more-room i) w ∙ l .inv .size;
-      room = turn-more (l .end) (p .result) (B i) (L i) (l .b) (p .last .0) e (more-room i) w;
-      ends = l .inv .ends ∙ omega (arith, ap length (split-bytes i), length-append (B i) (L i), e);
+      size = opened p .size ∙ l .inv .size;
+      room = opened p .room;
+      ends = l .inv .ends ∙ ap (λ bs. l .end + length bs) (split-bytes i) ∙ sym (opened p .ends);
       opened =
           l .inv .opened ∙ ap (lastOpened (l .last)) (split i) ∙ last-append (l .last) (parts i (z i)) (rest i)
           ∙ ap (λ k. lastOpened k (rest i)) (last ∙ sym (place i));
-      bytes =
-          l .inv .bytes ∙ ap (λ bs. lay (l .end) bs (l .b)) (split-bytes i)
-          ∙ turn-lay (l .end) (p .result) (B i) (L i) (l .b) (p .last .0) e (more-room i) w;
+      bytes = l .inv .bytes ∙ ap (λ bs. lay (l .end) bs (l .b)) (split-bytes i) ∙ sym (opened p .bytes);
     }
 
 same-length : tie.Need-same-length Inv-loop μ-loop
@@ -257,16 +221,15 @@ returns : tie.Need-returns Inv-loop μ-loop
 returns c =
     let l = c .before .loop in
     let s = start (c .before) in
-    let q = begun (c .before) .put-changes in
+    let q = begun (current-put (c .before)) in
     let first = last-changes (c0 s) 0 (slotOf (getD (old s) (c0 s) blank)) (slotOf (getD (new s) (c0 s) blank)) in
     let last = last-append (c0 s) (current s) (others s) ∙ ap (λ k. lastOpened k (others s)) first in
-    let laid = turn-lay (s .args .at) (q .result) (A s) (R s) (s .args .b .now) (q .last .0) (q .ensures .0) (room s) (q .ensures .1) in
-    let none-more = ap length (none-left c) in
     record {
-      ends = omega (arith, l .inv .ends, none-more, q .ensures .0, ap length (whole s), length-append (A s) (R s));
+      ends = omega (arith, l .inv .ends, ap length (none-left c), q .ends, ap length (whole s));
       last = sym (last ∙ l .inv .opened ∙ ap (lastOpened (l .last)) (none c));
       bytes =
-          sym (ap (λ bs. lay (s .args .at) bs (s .args .b .now)) (whole s) ∙ laid ∙ l .inv .bytes ∙ ap (λ bs. lay (l .end) bs (l .b)) (none-left c) ∙ lay-nil (l .end) (l .b));
+          sym (lay-nil (l .end) (l .b)) ∙ ap (λ bs. lay (l .end) bs (l .b)) (sym (none-left c)) ∙ sym (l .inv .bytes) ∙ q .bytes
+          ∙ ap (λ bs. lay (s .args .at) bs (s .args .b .now)) (sym (whole s));
     }
 
 pub send-slots-spec : {M : Type 1} → statement M
@@ -279,23 +242,15 @@ send-slots-spec =
     array-copy-out-o
     mul-v
     array-copy-out-v
-    sub-put-changes
-    part-put-changes-start
-    part-put-changes-end
     put-changes-requires
-    add-end
     loop-holds
     cast-s
     sub-m
-    sub-put-opened
-    part-put-opened-start
-    part-put-opened-end
     mul-put-opened
     array-copy-out-put-opened
     mul-put-opened-2
     array-copy-out-put-opened-2
     put-opened-requires
-    add-end-2
     loop-less
     loop-again
     same-length

@@ -1,29 +1,32 @@
 -- `writer::write` answers as the model's call does, refusal by refusal, and writes a good frame that has room. Assumes nothing.
-use mathlib.Core.Path.{_≡_, refl, sym, ap, ap₂, _∙_}
+use mathlib.Core.Path.{_≡_, refl, sym, ap, ap₂, subst, _∙_}
 use mathlib.Core.Bool.{Bool, true, false, _&&_}
 use mathlib.Core.List.{List}
-use Prim.Native.Nat.{ℕ, _≤_, _+_, _-_, _*_}
+use Prim.Native.Nat.{ℕ, _<_, _≤_, _+_, _-_, _*_}
 use native.Mathlib.Omega.{arith}
-use lib.Dec.{leb}
 use lib.IntN.{ℤ}
 use lib.ListN.{length}
-use borrow.Author.Tests.{eq-eqb, ne-eqb, le-leb, lt-leb, not-true, not-false}
+use borrow.Author.Tests.{eq-eqb, ne-eqb, not-true, not-false}
 use Rattle.model.specs.Panel.{base, perSlot, records}
-use Rattle.model.specs.Frame.{rowsFrom, sized, valuesGood}
+use Rattle.model.specs.Frame.{rowsFrom, sized, valuesGood, framed}
 use Rattle.model.specs.Calls as C
 use Rattle.model.specs.Calls.{roomFor}
 use Rattle.model.specs.Pointing.{pointerGood, pointerNeed}
-use Rattle.panel.specs.Seen.{panelSeen}
+use Rattle.panel.specs.Seen.{tableOf, panelSeen}
 use Rattle.panel.proofs.Tables.{unmapped}
 use Rattle.plan.specs.declared.Planned.{Planned}
-use Rattle.plan.proofs.Turn.{good-plain}
+use Rattle.plan.specs.Quiet.{QuietAt}
+use Rattle.plan.specs.Walk.{Given, Plans, PlansBy}
+use Rattle.plan.proofs.Unique.{verdict-of}
 use Rattle.pointer.specs.declared.Moved.{Moved}
+use Rattle.pointer.specs.Moved.{MovingIf, MovesBy}
 use Rattle.tally.proofs.Told.{others-told, events-told}
 use Rattle.writer.specs.declared.WriterState.{WriterState}
 use Rattle.writer.specs.Seen.{seen, writtenFrom, withLast, takenBy}
-use Rattle.writer.proofs.States.{good-setup, good-size, good-current, good-counter, good-rest}
+use Rattle.writer.proofs.States.{good-setup, good-size, good-slots, good-current, good-counter}
 use Rattle.writer.proofs.Outcome.{answer-by, buffer-by, refusal-is}
-use Rattle.writer.proofs.Accepted.{GoodFrame, PlannedFrame, Known, moving, refused-by, quiet, fits-touch, fits-slots, fits-end, same-size, sent}
+use Rattle.writer.proofs.Accepted.{GoodFrame, PlannedFrame, Known, moving, stays-told, refused-by, fits-touch, fits-slots, fits-end, same-size, sent}
+use Rattle.writer.proofs.Quiet.{handed-back, still}
 use borrow.Author.Needs.{needs}
 use Rattle.writer.proofs.write.Statement.{statement}
 use Rattle.writer.proofs.write.Tie as tie
@@ -57,62 +60,105 @@ state-good c = sym (c .before .state-ok .ensures) ∙ not-false (c .before .stat
 frame-whole : (c : tie.Else2) → whole (start (c .before .before .before)) ≡ true
 frame-whole c = eq-eqb _ _ (c .if2 .left)
 
--- ---- a good frame: its plan, what moved, and what is counted of it
+-- ---- the frame's first loud row
 
--- Where all tests but that of the room have passed.
-abbrev judged : tie.Else3 → tie.Start
-judged c = start (c .before .before .before .before .before)
+-- Where the frame's length is right, and its quiet rows are passed over.
+abbrev whole-at : tie.After-first-loud → tie.Else2
+whole-at q = q .before .before
 
-good : (c : tie.Else3) → GoodFrame (st (judged c)) (fr (judged c))
-good c =
-    let k = c .before in
-    let v : values (judged c) ≡ true = sym (k .values-ok .ensures) ∙ not-false (k .values-ok .result) (c .if3 .left) in
-    record { state = state-good (k .before .before .before); size = k .before .if2 .left; values = v }
-
-abbrev passed : tie.After-plan-frame → tie.Else3
-passed p = p .before .before
-
-abbrev given : tie.After-plan-frame → tie.Start
-given p = judged (passed p)
-
-abbrev made : tie.After-plan-frame → Planned
-made p = p .plan-frame .result
+abbrev begin : tie.After-first-loud → tie.Start
+begin q = start (whole-at q .before .before .before)
 
 held-full : (s : tie.Start) → length (st s .table) ≡ records
 held-full s = search (needs, unmapped)
 
+good-state : (q : tie.After-first-loud) → pointerGood base (seen (st (begin q))) ≡ true
+good-state q = state-good (whole-at q .before .before)
+
+given : (q : tie.After-first-loud) → (let s = begin q in Given (st s .setup) (st s .table) (st s .counter) (fr s))
+given q =
+    let s = begin q in
+    let g = good-state q in
+    record { setup = good-setup (st s) g; slots = good-slots (st s) g (held-full s); counts = good-counter (st s) g; size = whole-at q .if2 .left }
+
+-- ---- a good frame: its plan, what moved, and what is counted of it
+
+abbrev found : tie.After-plan-frame → tie.After-first-loud
+found p = p .before .before .before
+
+abbrev given-to : tie.After-plan-frame → tie.Start
+given-to p = begin (found p)
+
+abbrev made : tie.After-plan-frame → Planned
+made p = p .plan-frame .result
+
 made-full : (p : tie.After-plan-frame) → length (made p .table) ≡ records
 made-full p = search (needs, unmapped)
 
-framed : (p : tie.After-plan-frame) → PlannedFrame (st (given p)) (fr (given p)) (made p)
-framed p = record { good = good (passed p); plans = p .plan-frame .ensures; held = held-full (given p); made = made-full p }
+-- Whether it is good says whether the frame's values are.
+values-are : (p : tie.After-plan-frame) → made p .good ≡ values (given-to p)
+values-are p =
+    let s = given-to p in
+    verdict-of (values s) (st s .setup .n) (st s .table) (st s .counter) (framed (st s .counter) (rowsFrom perSlot (st s .setup .n) (fr s) 0) (tableOf (st s .table))) (made p) (p .plan-frame .ensures)
+
+abbrev planned : tie.Else4 → tie.After-plan-frame
+planned c = c .before .before
+
+values-good : (c : tie.Else4) → values (given-to (planned c)) ≡ true
+values-good c = sym (values-are (planned c)) ∙ not-false (made (planned c) .good) (c .if4 .left)
+
+plans : (c : tie.Else4) → (let p = planned c in let s = given-to p in
+    Plans (st s .setup .n) (st s .table) (framed (st s .counter) (rowsFrom perSlot (st s .setup .n) (fr s) 0) (tableOf (st s .table))) (made p))
+plans c =
+    let p = planned c in
+    let s = given-to p in
+    subst (λ v. PlansBy v (st s .setup .n) (st s .table) (st s .counter) (framed (st s .counter) (rowsFrom perSlot (st s .setup .n) (fr s) 0) (tableOf (st s .table))) (made p)) (values-good c) (p .plan-frame .ensures)
+
+good : (c : tie.Else4) → GoodFrame (st (given-to (planned c))) (fr (given-to (planned c)))
+good c =
+    let q = found (planned c) in
+    record { state = good-state q; size = whole-at q .if2 .left; values = values-good c }
+
+frame-planned : (c : tie.Else4) → PlannedFrame (st (given-to (planned c))) (fr (given-to (planned c))) (made (planned c))
+frame-planned c = record { good = good c; plans = plans c; held = held-full (given-to (planned c)); made = made-full (planned c) }
 
 abbrev moved-at : tie.After-emulated → tie.After-move-on
 moved-at t = t .before .before .before .before .before .before
 
+abbrev judged : tie.After-emulated → tie.Else4
+judged t = moved-at t .before .before .before .before .before
+
 abbrev plan : tie.After-emulated → tie.After-plan-frame
-plan t = moved-at t .before .before .before .before .before
+plan t = planned (judged t)
 
 abbrev owned : tie.After-emulated → tie.After-own-of
 owned t = t .before .before .before
 
 abbrev all : tie.After-emulated → tie.Start
-all t = given (plan t)
+all t = given-to (plan t)
 
 abbrev moved : tie.After-emulated → Moved
 moved t = moved-at t .move-on .result
+
+-- What moved, from the state's ranks and what it told.
+moves : (c : tie.After-move-on) → (let s = st (given-to (planned (c .before .before .before .before .before))) in
+    MovesBy (s .pointer) (s .table) (made (planned (c .before .before .before .before .before)) .table) (s .ranks) (s .told) (c .move-on .result))
+moves c =
+    let p = planned (c .before .before .before .before .before) in
+    let s = st (given-to p) in
+    subst (λ (l : Moved). MovesBy (s .pointer) (s .table) (made p .table) (l .ranks) (l .told) (c .move-on .result)) (c .before .last-of .ensures) (c .move-on .ensures)
 
 known : (t : tie.After-emulated)
     → Known (st (all t)) (fr (all t)) (made (plan t)) (moved t) (t .before .before .without-current .result) (t .before .event-count .result + t .emulated .result)
 known t =
     let s = st (all t) in
     let p = made (plan t) in
-    let tells = plan t .plan-frame .ensures .tells in
+    let tells = plans (judged t) .tells in
     let others = t .before .before .without-current .ensures ∙ others-told (s .table) (p .table) (s .current .0) (s .setup .n) (p .changes) tells in
     let events = events-told (s .table) (p .table) (s .current .0) (s .setup .n) (p .changes) tells (t .before .before .without-current .result) others in
     record {
-      frame = framed (plan t);
-      moves = moved-at t .move-on .ensures;
+      frame = frame-planned (judged t);
+      moves = moves (moved-at t);
       opened = others;
       count = ap₂ (λ a b. a + b) (t .before .event-count .ensures .0 ∙ events) (t .emulated .ensures .0);
     }
@@ -128,17 +174,9 @@ size t = length (all t .args .buf .now)
 abbrev enough : tie.After-emulated → Bool
 enough t = roomFor (bytes t) (all t .args .at) (size t)
 
--- The position is not past the end, so the bytes after it decide.
-by-rest : (i : tie.Else4) → (let t = i .before in enough t ≡ leb (bytes t) (size t - all t .args .at))
-by-rest i =
-    let t = i .before in
-    ap (λ b. b && leb (bytes t) (size t - all t .args .at)) (le-leb (all t .args .at) (size t) (i .if4 .left))
-
 -- There is room.
 roomy : (e : tie.Else5) → enough (e .before .before) ≡ true
-roomy e =
-    let t = e .before .before in
-    by-rest (e .before) ∙ le-leb (bytes t) (size t - all t .args .at) (e .if5 .left)
+roomy e = sym (e .before .has-room .ensures) ∙ not-false (e .before .has-room .result) (e .if5 .left)
 
 -- And something changed.
 abbrev emulated-at : tie.Else6 → tie.After-emulated
@@ -181,54 +219,71 @@ returns-2 c =
       sym (buffer-by base (seen (st s)) (fr s) (s .args .at) buf true false (values s) (room s) g z refl refl),
     )
 
-values-ok-requires : tie.Need-values-ok-requires
-values-ok-requires c κs =
-    let e = c .before .before in
-    (good-setup (st (start (e .before))) (state-good e), c .if2 .left)
+first-loud-requires : tie.Need-first-loud-requires
+first-loud-requires c κs =
+    let w = c .before in
+    let e = w .before .before in
+    (good-size (st (start (e .before))) (state-good e), w .if2 .left)
+
+unchanged-requires : tie.Need-unchanged-requires
+unchanged-requires c κs = search needs
+
+returns-3 : tie.Need-returns-3
+returns-3 c =
+    let q = c .before .before .before in
+    let s = begin q in
+    let all-quiet : (i : ℕ) → i < st s .setup .n → QuietAt (fr s) (st s .table) i = λ i h. q .first-loud .ensures .before i (omega (arith, h, c .before .if3 .taken)) in
+    let r = still (st s) (fr s) (good-state q) (given q) (held-full s) all-quiet (s .args .at) (s .args .buf .now) in
+    (c .unchanged .ensures ∙ r .0, r .1)
+
+plan-frame-requires : tie.Need-plan-frame-requires
+plan-frame-requires c κs =
+    let q = c .before .before in
+    record { given = given q; inside = q .first-loud .ensures .inside; quiet = q .first-loud .ensures .before }
 
 refused-requires-3 : tie.Need-refused-requires-3
 refused-requires-3 c κs = search needs
 
-returns-3 : tie.Need-returns-3
-returns-3 c =
-    let k = c .before .before in
-    let f = k .before in
-    let e = f .before .before in
-    let s = start (e .before) in
+returns-4 : tie.Need-returns-4
+returns-4 c =
+    let p = c .before .before .before in
+    let s = given-to p in
     let buf = s .args .buf .now in
-    let g = state-good e in
-    let z = frame-whole f in
-    let v : values s ≡ false = sym (k .values-ok .ensures) ∙ not-true (k .values-ok .result) (c .before .if3 .taken) in
+    let g = good-state (found p) in
+    let z = frame-whole (whole-at (found p)) in
+    let v : values s ≡ false = sym (values-are p) ∙ not-true (made p .good) (c .before .if4 .taken) in
     let answer = answer-by base (seen (st s)) (fr s) (s .args .at) buf true true false (room s) g z v refl in (
       c .refused3 .ensures ∙ refusal-is C.value (st s) (need s) ∙ ap writtenFrom (sym answer),
       sym (buffer-by base (seen (st s)) (fr s) (s .args .at) buf true true false (room s) g z v refl),
     )
 
-plan-frame-requires : tie.Need-plan-frame-requires
-plan-frame-requires c κs =
-    let e = c .before in
-    let s = judged e in
-    let g = good e .state in
-    (good-size (st s) g, good-counter (st s) g, good e .size, good-plain (st s .setup) (rowsFrom perSlot (st s .setup .n) (fr s) 0) (good e .values), good-rest (st s) g)
+last-of-requires : tie.Need-last-of-requires
+last-of-requires c κs = search needs
 
 move-on-requires : tie.Need-move-on-requires
-move-on-requires c κs = moving (framed (c .before .before .before .before))
+move-on-requires c κs =
+    let d = c .before .before .before .before in
+    let s = st (given-to (planned d)) in
+    let p = made (planned d) in
+    subst (MovingIf (s .pointer) (s .setup .n) (s .table) (p .table) (p .changes .slots)) (sym (c .last-of .ensures)) (moving (frame-planned d))
 
 own-of-requires : tie.Need-own-of-requires
 own-of-requires c κs = search needs
 
 without-current-requires : tie.Need-without-current-requires
 without-current-requires c κs =
-    let p = c .before .before .before .before .before .before .before .before in
-    good-current (st (given p)) (good (passed p) .state)
+    let d = c .before .before .before .before .before .before .before .before in
+    good-current (st (given-to (planned d))) (good d .state)
 
 event-count-requires : tie.Need-event-count-requires
 event-count-requires c κs =
-    let p = c .before .before .before .before .before .before .before .before .before in
-    omega (arith, p .plan-frame .ensures .tells .before .numbers, good-size (st (given p)) (good (passed p) .state))
+    let d = c .before .before .before .before .before .before .before .before .before in
+    omega (arith, plans d .tells .before .numbers, good-size (st (given-to (planned d))) (good d .state))
 
 emulated-requires : tie.Need-emulated-requires
-emulated-requires c κs = search needs
+emulated-requires c κs =
+    let m = c .before .before .before .before .before in
+    stays-told (frame-planned (m .before .before .before .before .before)) (m .move-on .result) (moves m)
 
 add-events : tie.Need-add-events
 add-events c = search needs
@@ -236,41 +291,29 @@ add-events c = search needs
 mul-need : tie.Need-mul-need
 mul-need c = search needs
 
+has-room-requires : tie.Need-has-room-requires
+has-room-requires c κs = search needs
+
 refused-requires-4 : tie.Need-refused-requires-4
 refused-requires-4 c κs = search needs
 
-returns-4 : tie.Need-returns-4
-returns-4 c =
-    let t = c .before .before in
-    let at = all t .args .at in
-    let none = ap (λ b. b && leb (bytes t) (size t - at)) (lt-leb at (size t) (c .before .if4 .taken)) in
-    let r = refused-by (known t) at (all t .args .buf .now) none in
-    (c .refused4 .ensures ∙ r .0, r .1)
-
-sub-if5 : tie.Need-sub-if5
-sub-if5 c = search needs
-
-refused-requires-5 : tie.Need-refused-requires-5
-refused-requires-5 c κs = search needs
-
 returns-5 : tie.Need-returns-5
 returns-5 c =
-    let i = c .before .before in
-    let t = i .before in
-    let at = all t .args .at in
-    let none = by-rest i ∙ lt-leb (bytes t) (size t - at) (c .before .if5 .taken) in
-    let r = refused-by (known t) at (all t .args .buf .now) none in
-    (c .refused5 .ensures ∙ r .0, r .1)
+    let h = c .before .before in
+    let t = h .before in
+    let without = sym (h .has-room .ensures) ∙ not-true (h .has-room .result) (c .before .if5 .taken) in
+    let r = refused-by (known t) (all t .args .at) (all t .args .buf .now) without in
+    (c .refused4 .ensures ∙ r .0, r .1)
 
-taken-requires : tie.Need-taken-requires
-taken-requires c κs = search needs
+unchanged-requires-2 : tie.Need-unchanged-requires-2
+unchanged-requires-2 c κs = search needs
 
 returns-6 : tie.Need-returns-6
 returns-6 c =
     let e = c .before .before in
     let t = e .before .before in
-    let r = quiet (known t) (all t .args .at) (all t .args .buf .now) (roomy e) (c .before .if6 .taken) in
-    (c .taken .ensures ∙ ap (λ o. takenBy (made (plan t) .table) (moved t) o (t .before .event-count .result + t .emulated .result) (made (plan t) .changes .slots)) (owned t .own-of .ensures) ∙ r .0, r .1)
+    let r = handed-back (known t) (c .before .if6 .taken) (all t .args .at) (all t .args .buf .now) (roomy e) in
+    (c .unchanged2 .ensures ∙ r .0, r .1)
 
 send-touch-requires : tie.Need-send-touch-requires
 send-touch-requires c κs =
@@ -284,7 +327,7 @@ send-slots-requires c κs =
     let n = o .before .before in
     let t = emulated-at n in
     let touch = o .send-touch in (
-      good-current (st (all t)) (good (passed (plan t)) .state),
+      good-current (st (all t)) (good (judged t) .state),
       fits-slots (known t) (all t .args .at) (all t .args .buf .now) (roomy (n .before)) (n .if6 .left) (touch .result) (touch .last .0) (touch .ensures .0) (touch .ensures .1),
     )
 
@@ -301,8 +344,8 @@ send-end-requires c κs =
 with-requires : tie.Need-with-requires
 with-requires c κs = search needs
 
-taken-requires-2 : tie.Need-taken-requires-2
-taken-requires-2 c κs = search needs
+taken-requires : tie.Need-taken-requires
+taken-requires c κs = search needs
 
 same-length : tie.Need-same-length
 same-length c =
@@ -325,7 +368,7 @@ returns-7 c =
     let touch = o .send-touch in
     let r = sent (known t) (all t .args .at) (all t .args .buf .now) (roomy (n .before)) (n .if6 .left) (touch .result) (touch .last .0) (touch .ensures .0) (touch .ensures .1)
     (l .send-slots .result) (l .send-slots .last .0) (l .send-slots .ensures) (e .send-end .last .0) (e .send-end .ensures) in
-    (c .taken2 .ensures ∙ ap (λ w. takenBy (made (plan t) .table) (moved t) w (t .before .event-count .result + t .emulated .result) (made (plan t) .changes .slots)) (c .before .with .ensures ∙ ap (λ o. withLast o (l .send-slots .result .last)) (owned t .own-of .ensures)) ∙ r .0, r .1)
+    (c .taken .ensures ∙ ap (λ w. takenBy (made (plan t) .table) (moved t) w (t .before .event-count .result + t .emulated .result) (made (plan t) .changes .slots)) (c .before .with .ensures ∙ ap (λ o. withLast o (l .send-slots .result .last)) (owned t .own-of .ensures)) ∙ r .0, r .1)
 
 pub write-spec : {M : Type 1} → statement M
 write-spec =
@@ -337,10 +380,13 @@ write-spec =
     mul-if2
     refused-requires-2
     returns-2
-    values-ok-requires
-    refused-requires-3
+    first-loud-requires
+    unchanged-requires
     returns-3
     plan-frame-requires
+    refused-requires-3
+    returns-4
+    last-of-requires
     move-on-requires
     own-of-requires
     without-current-requires
@@ -348,17 +394,15 @@ write-spec =
     emulated-requires
     add-events
     mul-need
+    has-room-requires
     refused-requires-4
-    returns-4
-    sub-if5
-    refused-requires-5
     returns-5
-    taken-requires
+    unchanged-requires-2
     returns-6
     send-touch-requires
     send-slots-requires
     send-end-requires
     with-requires
-    taken-requires-2
+    taken-requires
     same-length
     returns-7)
