@@ -15,6 +15,7 @@
 -- Cranes: the cranes' reader, given all their bytes, shows four numbers of the writer's slots and skips the sizes and the emulated events alone (K1).
 -- Pieces: bytes as the line delivers them are read as `run` reads the whole records of their string, a load between them too (K5).
 -- PiecesCalls: its claims are the contracts, their refusals exact; pieces from a fresh state, and what is asked between them.
+-- Long: any shift at every moment: a reader given all its bytes, through the line's pieces or a recording too, one that comes late, a crane's, and the ids (K14).
 pub mod Contracts
 pub mod Exact
 pub mod Demands
@@ -31,3 +32,4 @@ pub mod PointerTold
 pub mod Cranes
 pub mod Pieces
 pub mod PiecesCalls
+pub mod Long

@@ -1,8 +1,9 @@
 -- What the calls promise, as claims of what is handed in and answered; what a host does, call after call; what K1 asks of the cranes' reader; what
--- K5 asks of one that takes pieces; and what K6 asks of the writer.
+-- K5 asks of one that takes pieces; what K6 asks of the writer; and what K14 asks of a long shift.
 pub mod Promises
 pub mod Host
 pub mod Shift
 pub mod Pointer
 pub mod Cranes
 pub mod Pieces
+pub mod Long

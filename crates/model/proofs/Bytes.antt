@@ -69,7 +69,7 @@ unfolding recordBytes
 record-back e rest h = rw (two (e .type) (h .type), two (e .code) (h .code), four (bitsOf (e .value)) (bits-below (e .value) (h .value)), signed-bits (e .value) (h .value))
 
 -- A record behind other bytes is the record at their end.
-record-behind : (before s : List ℕ) → eventAt (before ++ s) (length before) ≡ eventAt s 0
+pub record-behind : (before s : List ℕ) → eventAt (before ++ s) (length before) ≡ eventAt s 0
 record-behind before s =
     let n = length before in
     let z : getD (before ++ s) n 0 ≡ getD s 0 0 = ap (λ k. getD (before ++ s) k 0) (sym (add-zero n)) ∙ getD-append-add before s 0 0 in

@@ -13,6 +13,7 @@
 --   Bools: tests that pass or fail, and equal whole numbers.
 --   Tables: slots and tables of one size, equal, good, with one slot changed or done.
 --   Rows: a flat run of numbers row by row.
+--   Images: a well-formed table is the table of its image, and a load accepts that.
 --   Places: places for bytes, of which the unused ones are 0.
 --   Counts: counts add up, and are no more than the events.
 --   Layouts: a good setup's panel has fields that events can tell apart and carry.
@@ -62,6 +63,7 @@
 --   Blocks: what one block is answered exactly when; a written one reads back, an altered one is refused.
 --   Recordings: a recording's blocks by their places; it reads back, and may be laid in parts.
 --   Tampered: blocks left out, doubled or in each other's place, bytes cut off, one byte altered.
+--   Replayed: what is heard of a recording: whole records, and from an altered block on a loss among them.
 --   Laying: the recorder's calls that write, refused exactly when.
 --   TimeOfDay: what seven bytes from 0xFC on say, whatever they are (K13).
 -- The force stick (K10)
@@ -103,6 +105,7 @@
 --   PointerShift: any list of calls, refused ones among them.
 --   PointerPlain: seen without the option, they are the calls of a shift without it.
 --   PointerNarrow: K1 with it: a shorter reader shows the first numbers of the writer's slots, and skips the emulated events too.
+--   Long: K14: a reader that is given every byte of a shift, one that comes late and loads the writer's table, and the ids.
 --   Births: the followed contact began in the earliest call.
 pub mod Bench
 pub mod AtReport
@@ -125,6 +128,7 @@ pub mod Least
 pub mod Ids
 pub mod Tries
 pub mod Rows
+pub mod Images
 pub mod ReaderSteady
 pub mod WriterSteady
 pub mod FreshSteady
@@ -170,6 +174,7 @@ pub mod Weights
 pub mod Blocks
 pub mod Recordings
 pub mod Tampered
+pub mod Replayed
 pub mod Laying
 pub mod PointerSheet
 pub mod Ranks
@@ -193,5 +198,6 @@ pub mod PointerNone
 pub mod PointerShift
 pub mod PointerPlain
 pub mod PointerNarrow
+pub mod Long
 pub mod Births
 pub mod Instances

@@ -184,7 +184,7 @@ module _ (l : Layout) (s : PointerState) (f : List ℤ) (g : T (goodLayout l)) (
 -- ---- any calls
 
 module _ (l : Layout) (g : T (goodLayout l)) (able : T (pointable l)) where
-  calls-alone : (u : Setup) (s : PointerState) (ks : List FrameCall) → s .base .setup ≡ u → T (pointerGood l s)
+  pub calls-alone : (u : Setup) (s : PointerState) (ks : List FrameCall) → s .base .setup ≡ u → T (pointerGood l s)
       → SkipsAlone (panelOf l u) (pointerSentAll l s ks)
   calls-alone u s [] e good = tt
   calls-alone u s (k ∷ ks) e good =
@@ -259,7 +259,7 @@ module _ (k m : ℕ) (p : Panel) (w : Tellable p) (n : T (unpointed (fieldCodes 
   first-is [] h = refl
   first-is (e ∷ es) h = ap₂ (λ b c. cond b (event (e .type) (e .code)) c) (counted e (h .0) .skipped) (first-is es (h .1))
 
-  counts-are : (es : List Event) → SkipsAlone p es → followed short es ≡ pointedCounts later es
+  pub counts-are : (es : List Event) → SkipsAlone p es → followed short es ≡ pointedCounts later es
   counts-are es h = rw (types-are es h, codes-are es h, first-is es h)
 
 -- ---- the short reader

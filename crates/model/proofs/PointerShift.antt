@@ -80,7 +80,7 @@ module _ (l : Layout) (s : PointerState) (k : FrameCall) (g : T (goodLayout l)) 
       refl
 
 -- Its bytes are those of its events.
-call-bytes : (l : Layout) (s : PointerState) (k : FrameCall) → T (goodLayout l) → pointerWritten l s (k .frame) (k .at) (k .buffer) ≡ bytesOf (pointerSent l s k)
+pub call-bytes : (l : Layout) (s : PointerState) (k : FrameCall) → T (goodLayout l) → pointerWritten l s (k .frame) (k .at) (k .buffer) ≡ bytesOf (pointerSent l s k)
 unfolding bytesOf
 call-bytes l s k g =
     let v = pointerJudged l s k in

@@ -203,6 +203,18 @@ piece-at (suc k) s (suc j) h =
     let z : blockLength + blockLength * j ≡ blockLength * suc j = omega arith in
     piece-at k (drop blockLength s) j (omega arith) ∙ ap (take blockLength) (drop-drop (blockLength * j) blockLength s ∙ ap (λ i. drop i s) z)
 
+-- The pieces of bytes of which one is altered.
+pub pieces-set : (s : List ℕ) (i v : ℕ) → i < length s
+    → (let j = i / blockLength in pieces (set s i v) ≡ set (pieces s) j (set (getD (pieces s) j []) (i % blockLength) v))
+pieces-set s i v h =
+    let j = i / blockLength in
+    let r = i % blockLength in
+    let k = (length s + (blockLength - 1)) / blockLength in
+    let z : blockLength * j + r ≡ i = omega arith in
+    ap (λ m. piecesFrom ((m + (blockLength - 1)) / blockLength) (set s i v)) (length-set s i v)
+    ∙ ap (λ m. piecesFrom k (set s m v)) (sym z)
+    ∙ pieces-altered j k s r v (omega arith) (omega arith)
+
 -- Of any bytes: where the piece of a byte was good, and that byte is altered, that piece is refused and every other is answered as before.
 pub altered-once : (n : ℕ) (s : List ℕ) (i v : ℕ) → i < length s → v ≢ getD s i 0
     → Good (n + i / blockLength) (getD (pieces s) (i / blockLength) [])
@@ -217,9 +229,7 @@ altered-once n s i v h d g =
     let at : getD p r 0 ≡ getD s i 0 =
     ap (λ q. getD q r 0) (piece-at k s j below) ∙ getD-take blockLength (drop (blockLength * j) s) r 0 (omega arith)
     ∙ getD-drop (blockLength * j) s r 0 ∙ ap (λ m. getD s m 0) z in
-    ap (λ m. answers n (piecesFrom ((m + (blockLength - 1)) / blockLength) (set s i v))) (length-set s i v)
-    ∙ ap (λ m. answers n (piecesFrom k (set s m v))) (sym z)
-    ∙ ap (answers n) (pieces-altered j k s r v (omega arith) below)
+    ap (answers n) (pieces-set s i v h)
     ∙ answers-set j n (pieces s) (set p r v)
     ∙ ap (set (answers n (pieces s)) j) (altered-refused (n + j) (n + j) p r v g (omega arith) (λ e. d (e ∙ at)))
 

@@ -6,6 +6,7 @@ use Prim.Native.Nat.{ℕ, _+_, _*_}
 use lib.IntN.{ℤ}
 use lib.ListN.{length, take, drop}
 use Rattle.model.specs.Panel.{Layout, Panel, panelOf}
+use Rattle.model.specs.Table.{Table}
 use Rattle.model.specs.Events.{Event}
 use Rattle.model.specs.Reader.{Skipped, none, event, Counts}
 use Rattle.model.specs.Loss.{isReport}
@@ -72,3 +73,14 @@ followed p es = record {
   ignored = 0;
   first = firstOf (skippedBy p) es;
 }
+
+-- ---- a writer's table as an image
+
+-- The numbers of slots, one slot after the other.
+abbrev pub flat : Table → List ℤ
+flat [] = []
+flat (s ∷ t) = s ++ flat t
+
+-- The image of a table for a reader's load: the panel's slots, without the records past them.
+abbrev pub imageOf : Panel → Table → List ℤ
+imageOf p t = flat (take (p .slots) t)

@@ -111,7 +111,7 @@ pub answers-are : (n : ℕ) (ps : List (List ℕ)) → Answered n ps (map heldRe
 answers-are n [] = tt
 answers-are n (p ∷ ps) = (answered n p (heldRead (M.readBlock n p)) refl, answers-are (suc n) ps)
 
-heard-back : (n : ℕ) (ps : List (List ℕ)) (rs : List BlockRead) → Answered n ps rs → heard ps rs ≡ readBack n ps
+pub heard-back : (n : ℕ) (ps : List (List ℕ)) (rs : List BlockRead) → Answered n ps rs → heard ps rs ≡ readBack n ps
 heard-back n [] rs a = refl
 heard-back n (p ∷ ps) [] a = absurd a
 heard-back n (p ∷ ps) (r ∷ rs) a =
