@@ -13,7 +13,7 @@ use second::requests::Request;
 use second::script::{answer_line, is_passed_over, lines_of, Call};
 use second::streams::{text, Status};
 use second::tally::Tally;
-use second::{brief, maker, noise, programs, records, shift, smaller};
+use second::{brief, long, maker, noise, programs, records, shift, smaller};
 
 const USAGE: &str = "\
 second answer < SCRIPT                 the answers of a script of docs/DRIVE.md, as drive gives them
@@ -28,6 +28,7 @@ second records encode < TEXT           a program's input from readable text
 second records decode [frames] < BYTES the text of such an input
 second shift FRAMES SEED               so many frames of a made-up shift, for write_frames
 second shift FRAMES SEED lost FRAME    the records of these frames, SYN_DROPPED for the first one from FRAME on that lifts a hand
+second long FRAMES SEED [pointer]      the long shift of K14 as a script, with pointer emulation or without; fails where something that K14 claims does not hold
 second noise PROGRAM SEED INDEX        one random input for a program
 second noises PROGRAM SEED FIRST COUNT FOLDER
                                        COUNT of them from FIRST on, with what the program answers, as files
@@ -173,6 +174,8 @@ fn print(words: &[&str], out: &mut impl Write) -> Result<(), Failure> {
             let found = shift::records(number(frames)?, number(seed)?, number(frame)?, out)?;
             found.ok_or_else(|| format!("in frames {frame} to {frames} no hand lifts, so nothing was lost"))?;
         }
+        ["long", frames, seed] => long_shift(number(frames)?, number(seed)?, false, out)?,
+        ["long", frames, seed, "pointer"] => long_shift(number(frames)?, number(seed)?, true, out)?,
         ["noise", program, seed, index] => {
             out.write_all(&noise_for(program, number(seed)?, number(index)?)?)?;
         }
@@ -188,6 +191,17 @@ fn script(rounds: u64, seed: u64, out: &mut impl Write) -> io::Result<()> {
     writeln!(out, "# second script {rounds} {seed}")?;
     let mut maker = maker::Maker::new(seed);
     (0..rounds).try_for_each(|_| out.write_all(maker.lines().as_bytes()))
+}
+
+/// What there was is said on standard error once all of the script is written.
+fn long_shift(frames: u64, seed: u64, pointer: bool, out: &mut impl Write) -> Result<(), Failure> {
+    let tally = long::script(&long::RIGHT, frames, seed, pointer, out).map_err(|stopped| match stopped {
+        long::Stopped::Io(error) => Failure::Io(error),
+        long::Stopped::Wrong(words) => Failure::Words(words),
+    })?;
+    out.flush()?;
+    say(format!("second: {tally}\n").as_bytes());
+    Ok(())
 }
 
 fn noise_for(program: &str, seed: u64, index: u64) -> Result<Vec<u8>, Failure> {

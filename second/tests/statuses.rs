@@ -219,6 +219,27 @@ fn answers_that_differ() {
 }
 
 #[test]
+fn a_long_shift_and_one_that_is_too_short() {
+    let _turn = turn();
+    let run = |words: &[&str]| output(&mut second(words), b"");
+    for words in [&["long", "100", "1"][..], &["long", "100", "1", "pointer"]] {
+        let made = run(words);
+        let said = String::from_utf8_lossy(&made.stderr).into_owned();
+        let calls = made.stdout.iter().filter(|byte| **byte == b'\n').count();
+        assert!(said.starts_with("second: 100 frames, ") && said.ends_with(&format!(" {calls} calls\n")), "{said}");
+        assert_eq!(made.status.code(), Some(0));
+    }
+    check(&run(&["long", "0", "1"]), 1, "second: of 0 frames: no frame was refused for its length\n");
+    check(&run(&["long", "x", "1"]), 1, "second: 'x' is no number\n");
+    assert_eq!(run(&["long", "100", "1", "mouse"]).status.code(), Some(2));
+    check(
+        second(&["long", "100", "1"]).stdout(full()).output().as_ref().unwrap(),
+        2,
+        "second: No space left on device\n",
+    );
+}
+
+#[test]
 fn an_argument_is_one_too_many() {
     let _turn = turn();
     let said = |name: &str, argument: &str| {
