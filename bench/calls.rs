@@ -15,7 +15,7 @@ pub fn agreed<T: PartialEq + Debug, const N: usize>(call: &impl Debug, answers: 
 }
 
 #[derive(Default)]
-pub struct Verdicts([usize; 9]);
+pub struct Verdicts([usize; 11]);
 
 impl Verdicts {
     pub fn note(&mut self, verdict: u64) -> Result<(), String> {

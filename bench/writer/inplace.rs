@@ -232,9 +232,10 @@ impl State {
         }
     }
 
-    fn write(&mut self, frame: &[i32], buf: &mut [u8], at: usize) -> Result<Sent, Refused> {
+    /// The state is judged, unless its caller has done so.
+    pub fn write<const JUDGED: bool>(&mut self, frame: &[i32], buf: &mut [u8], at: usize) -> Result<Sent, Refused> {
         let refused = |number, need| Err(Refused { number, need });
-        if !self.well_formed() {
+        if !JUDGED && !self.well_formed() {
             return refused(2, 0);
         }
         if frame.len() != PER_SLOT * self.setup.n as usize {
@@ -261,6 +262,6 @@ pub struct InPlace;
 
 impl Writer for InPlace {
     fn write(state: &mut State, frame: &[i32], buf: &mut [u8], at: usize) -> Result<Sent, Refused> {
-        state.write(frame, buf, at)
+        state.write::<false>(frame, buf, at)
     }
 }

@@ -78,7 +78,12 @@ unsafe extern "C" fn write<W: Writer>(
     at: usize,
     answer: &mut Answer,
 ) -> u64 {
-    match W::write(state, from_raw_parts(frame, numbers), from_raw_parts_mut(buf, size), at) {
+    told(W::write(state, from_raw_parts(frame, numbers), from_raw_parts_mut(buf, size), at), answer)
+}
+
+/// The verdict's number, with what stands beside it in the answer.
+pub fn told(outcome: Result<Sent, Refused>, answer: &mut Answer) -> u64 {
+    match outcome {
         Ok(sent) => {
             *answer = Answer { count: sent.count as u64, changed: sent.changed as u64, need: 0 };
             0

@@ -136,11 +136,12 @@ pub fn shorten(call: &Call) -> String {
         Call::One { reader, .. } | Call::Load { reader, .. } | Call::Ask { reader, .. } | Call::Good { reader } => {
             join(short_reader(&words, reader), &words[reader_numbers(reader.layout) + 1..])
         }
-        Call::Write { writer, .. } => {
-            let head = words[..=WRITER_HEAD].join(" ");
-            let table = short_table(Layout::Panel, &writer.table);
-            let pointer = short_pointer(&words[BEFORE_POINTER + 1..=WRITER_NUMBERS]);
-            join(format!("{head} {table} {pointer}"), &words[WRITER_NUMBERS + 1..])
+        Call::Write { writer, .. } => join(short_writer(&words, &writer.table), &words[WRITER_NUMBERS + 1..]),
+        Call::Anonymous { writer, records, .. } => {
+            let room = &words[WRITER_NUMBERS + 1..words.len() - records.len()];
+            let mut line = join(short_writer(&words, &writer.table), room);
+            put_bytes(&mut line, records);
+            line
         }
         Call::Recorder(call) => {
             let mut line = words[..words.len() - call.bytes().len()].join(" ");
@@ -150,8 +151,7 @@ pub fn shorten(call: &Call) -> String {
             }
             line
         }
-        Call::Fresh(..) | Call::New { .. } | Call::PiecesFresh(_) | Call::Start => long,
-        Call::Pod { .. } | Call::Force(_) | Call::Commands(_) => long,
+        _ => long,
     }
 }
 
@@ -191,6 +191,12 @@ fn short_reader(words: &[&str], reader: &Reader) -> String {
     format!("{head} {} {}", table(&reader.shown), table(&reader.pending))
 }
 
+fn short_writer(words: &[&str], table: &Table) -> String {
+    let head = words[..=WRITER_HEAD].join(" ");
+    let pointer = short_pointer(&words[BEFORE_POINTER + 1..=WRITER_NUMBERS]);
+    format!("{head} {} {pointer}", short_table(Layout::Panel, table))
+}
+
 fn short_table(layout: Layout, table: &Table) -> String {
     let used = table.iter().rposition(|slot| *slot != Slot::UNUSED).map_or(0, |last| last + 1);
     let slots: Vec<String> = table[..used].iter().map(|slot| short_slot(layout, slot)).collect();
@@ -219,12 +225,13 @@ fn join(mut line: String, words: &[&str]) -> String {
 mod tests {
     use super::*;
     use crate::maker::Maker;
+    use crate::requests::Request;
     use crate::table::SLOTS;
 
     #[test]
     fn short_lines_come_back() {
-        let mut maker = Maker::new(4);
-        for _ in 0..1000 {
+        let mut maker = Maker::with(4, Request::ALL);
+        for _ in 0..2000 {
             if let Some(call) = Call::parse(maker.next_line().as_bytes()) {
                 assert_eq!(expand_line(&shorten(&call)), Ok(call.line()));
             }

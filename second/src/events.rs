@@ -11,6 +11,8 @@ pub const EV_ABS: u16 = 3;
 
 /// Ends the events of a frame.
 pub const SYN_REPORT: u16 = 0;
+/// Closes a contact of a type A panel. No type B reader knows it.
+pub const SYN_MT_REPORT: u16 = 2;
 /// Events were lost.
 pub const SYN_DROPPED: u16 = 3;
 
@@ -89,6 +91,8 @@ pub struct Event {
 impl Event {
     /// SYN_REPORT as a writer sends it.
     pub const REPORT: Event = Event { kind: EV_SYN, code: SYN_REPORT, value: 0 };
+    /// SYN_MT_REPORT as a type A panel sends it.
+    pub const MT_REPORT: Event = Event { kind: EV_SYN, code: SYN_MT_REPORT, value: 0 };
     /// SYN_DROPPED as the programs send it.
     pub const DROPPED: Event = Event { kind: EV_SYN, code: SYN_DROPPED, value: 0 };
 

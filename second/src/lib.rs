@@ -1,9 +1,10 @@
 //! Panel and pod events, written from documents 01 and 02 alone: what the proved library is compared with.
 //!
-//! The rules: [`refusal`], [`table`], [`events`], [`reader`], [`pieces`], [`writer`], [`pointer`], [`pod`], [`recorder`], [`force`], [`commands`].
+//! The rules: [`refusal`], [`table`], [`events`], [`reader`], [`pieces`], [`writer`], [`pointer`], [`anonymous`], [`pairing`], [`pod`], [`recorder`], [`force`], [`commands`].
 //! The programs: [`streams`], [`programs`]. The comparison: [`script`], [`maker`], [`random`], [`noise`], [`smaller`], [`tally`], [`requests`], and K14's [`long`] shift.
 //! For people: texts in [`records`] and [`brief`], a class's [`shift`].
 
+pub mod anonymous;
 pub mod brief;
 pub mod commands;
 pub mod events;
@@ -11,6 +12,7 @@ pub mod force;
 pub mod long;
 pub mod maker;
 pub mod noise;
+pub mod pairing;
 pub mod pieces;
 pub mod pod;
 pub mod pointer;

@@ -33,7 +33,7 @@ second noise PROGRAM SEED INDEX        one random input for a program
 second noises PROGRAM SEED FIRST COUNT FOLDER
                                        COUNT of them from FIRST on, with what the program answers, as files
 second programs FOLDER                 the programs that have a folder there and a twin here, in one line
-second PROGRAM < BYTES                 show_table, crane_table, write_frames, show_pod, record, replay, show_force, write_force, show_commands, write_commands or drive:
+second PROGRAM < BYTES                 show_table, crane_table, write_frames, show_pod, record, replay, show_force, write_force, show_commands, write_commands, write_anonymous or drive:
                                        the program of that name
 second write_frames --pointer < BYTES  the same with pointer emulation; as PROGRAM above it is one word, 'write_frames --pointer'";
 
@@ -46,6 +46,7 @@ fn cases_of(request: Request) -> &'static str {
         Request::Force => include_str!("../cases_force.txt"),
         Request::Commands => include_str!("../cases_commands.txt"),
         Request::Pointer => include_str!("../cases_pointer.txt"),
+        Request::Anonymous => include_str!("../cases_anonymous.txt"),
     }
 }
 

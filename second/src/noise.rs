@@ -2,11 +2,11 @@
 
 use std::io;
 
-use crate::events::Event;
+use crate::events::{Event, ABS_MT_POSITION_X, BTN_TOUCH};
 use crate::force::{LEN, OP, START};
 use crate::maker::Maker;
 use crate::pod::Pod;
-use crate::programs::{show_commands, write_frames, HEADER, WITH_POINTER};
+use crate::programs::{show_commands, write_frames, HEADER, MOST_RECORDS, WITH_POINTER};
 use crate::reader::Reader;
 use crate::recorder::{block, BLOCK};
 use crate::table::{Layout, Setup, LIMITS, NUMBERS, SLOTS};
@@ -15,6 +15,10 @@ use crate::writer::{Writer, LARGEST_FRAME};
 /// Every other input is short, one length after the other, so that every cut of the first records is tried; between them come long ones.
 const EACH_LENGTH: u64 = 80;
 const LONGEST: u64 = 5_000;
+
+/// The programs that read a setup first.
+const AFTER_SETUP: [&str; 7] =
+    ["show_table", "crane_table", "write_frames", WITH_POINTER, "record", "replay", "write_anonymous"];
 
 /// Bytes that a script is made of.
 const SCRIPT_BYTES: &[u8] = b"0123456789-  \n#fnrolagwsp";
@@ -33,9 +37,7 @@ pub fn noise(program: &str, seed: u64, index: u64) -> Option<Vec<u8>> {
         "show_commands" => commands(&mut maker, shape, length),
         "write_commands" => command_lines(&mut maker, shape, length),
         "drive" => script(&mut maker, shape, length),
-        "show_table" | "crane_table" | "write_frames" | WITH_POINTER | "record" | "replay" if shape == 0 => {
-            odd_setup(&mut maker, layout, turn)
-        }
+        _ if shape == 0 && AFTER_SETUP.contains(&program) => odd_setup(&mut maker, layout, turn),
         "show_table" | "crane_table" | "record" => {
             after_setup(&mut maker, layout, length, |maker, setup| match shape {
                 1 => plain(maker, length),
@@ -46,6 +48,11 @@ pub fn noise(program: &str, seed: u64, index: u64) -> Option<Vec<u8>> {
         "write_frames" | WITH_POINTER => after_setup(&mut maker, layout, length, |maker, setup| match shape {
             1 => plain(maker, length),
             _ => frames(maker, setup, length, program == WITH_POINTER),
+        }),
+        "write_anonymous" => after_setup(&mut maker, layout, length, |maker, setup| match shape {
+            1 if maker.random.once_in(2) => plain(maker, length),
+            1 => records(maker, layout, setup, length, false),
+            _ => packets_of_panel(maker, setup, length, shape == 3 && !is_short),
         }),
         "replay" => after_setup(&mut maker, layout, length, |maker, setup| match shape {
             1 => plain(maker, length),
@@ -185,6 +192,31 @@ fn frames(maker: &mut Maker, setup: Setup, length: usize, pointer: bool) -> Vec<
         bytes.extend(frame.iter().flat_map(|number| number.to_le_bytes()));
     }
     bytes
+}
+
+/// Frames of a type A panel, mostly good, at least so many bytes; where it may be `long`, now and then one is about as long as a program holds.
+fn packets_of_panel(maker: &mut Maker, setup: Setup, length: usize, long: bool) -> Vec<u8> {
+    let mut writer = Writer::fresh(setup, false).expect("a good setup");
+    let mut bytes = Vec::new();
+    while bytes.len() < length {
+        let mut frame = maker.type_a_frame(&writer);
+        if long && maker.random.once_in(60) {
+            stretch(maker, &mut frame);
+        }
+        let frame: Vec<u8> = frame.iter().flat_map(|event| event.to_bytes()).collect();
+        // A refused frame leaves the writer as it is, in the program too.
+        let _ = writer.write_anonymous(&frame, &mut [0; LARGEST_FRAME], 0);
+        bytes.extend(frame);
+    }
+    bytes
+}
+
+/// One record comes so often that the frame is as long as may be, or a little longer or shorter.
+fn stretch(maker: &mut Maker, frame: &mut Vec<Event>) {
+    let wanted = MOST_RECORDS + maker.random.pick(&[0, 0, 1, 1, 2, 900]) - maker.random.pick(&[0, 0, 0, 1]);
+    let record = maker.random.pick(&[Event::MT_REPORT, Event::key(BTN_TOUCH, true), Event::abs(ABS_MT_POSITION_X, 0)]);
+    let more = wanted.saturating_sub(frame.len());
+    frame.splice(0..0, vec![record; more]);
 }
 
 /// What a writer sends of such frames, at least so many bytes where the frames change enough.

@@ -1,16 +1,18 @@
-//! The programs of docs/PROGRAMS.md as filters: `show_table`, `crane_table`, `write_frames`, `show_pod` and `drive` here, those of the recorder, the force stick and the commands in files of their own.
+//! The programs of docs/PROGRAMS.md as filters: `show_table`, `crane_table`, `write_frames`, `show_pod` and `drive` here, those of the recorder, the force stick, the commands and anonymous panels in files of their own.
 
+mod anonymous;
 mod commands;
 mod force;
 mod recording;
 
+pub use anonymous::{write_anonymous, MOST_RECORDS};
 pub use commands::{show_commands, write_commands};
 pub use force::{show_force, write_force, REPORT};
 pub use recording::{record, replay};
 
 use std::io::{self, Read, Write};
 
-use crate::events::{Event, RECORD};
+use crate::events::{events, Event, EV_SYN, RECORD, SYN_REPORT};
 use crate::pieces::PieceReader;
 use crate::pod::Pod;
 use crate::reader::{Mode, Ran, Reader};
@@ -28,7 +30,7 @@ pub const HEADER: usize = (1 + NUMBERS) * NUMBER;
 pub const ROW: usize = SLOT_NUMBERS * NUMBER;
 
 /// The names that [`run`] takes, besides [`WITH_POINTER`].
-pub const NAMES: [&str; 11] = [
+pub const NAMES: [&str; 12] = [
     "show_table",
     "crane_table",
     "write_frames",
@@ -39,6 +41,7 @@ pub const NAMES: [&str; 11] = [
     "write_force",
     "show_commands",
     "write_commands",
+    "write_anonymous",
     "drive",
 ];
 
@@ -63,6 +66,7 @@ pub fn run(name: &str, input: impl Read, out: impl Write, err: impl Write) -> Op
         "write_force" => write_force(input, out, err),
         "show_commands" => show_commands(input, out, err),
         "write_commands" => write_commands(input, out, err),
+        "write_anonymous" => write_anonymous(input, out, err),
         "drive" => drive(input, out, err),
         _ => return None,
     })
@@ -303,6 +307,11 @@ fn send_frames<R: Read, W: Write, E: Write>(streams: &mut Streams<R, W, E>, poin
     if ended == Came::End {
         refuse_frame(&mut streams.words, k, Refusal::Frame);
     }
+    send_loss(streams)
+}
+
+/// Nobody knows what was lost.
+fn send_loss<R: Read, W: Write, E: Write>(streams: &mut Streams<R, W, E>) -> io::Result<()> {
     streams.out.write_all(&Event::DROPPED.to_bytes())?;
     // It is said to have been sent, so it has to be.
     streams.out.flush()?;

@@ -29,8 +29,9 @@ const NAMES: [(&str, u16); 7] = [
 pub fn event(words: &[&str]) -> Result<Event, String> {
     match words {
         ["REPORT"] => Ok(Event::REPORT),
+        ["MT_REPORT"] => Ok(Event::MT_REPORT),
         ["DROPPED"] => Ok(Event::DROPPED),
-        ["REPORT" | "DROPPED", ..] => Err(format!("{} takes no number; EVENT gives any value", words[0])),
+        ["REPORT" | "MT_REPORT" | "DROPPED", ..] => Err(format!("{} takes no number; EVENT gives any value", words[0])),
         ["EVENT", kind, code, value] => Ok(Event { kind: half(kind)?, code: half(code)?, value: decimal(value)? }),
         ["EVENT", ..] => Err("EVENT takes three numbers: type, code, value".to_string()),
         [name, rest @ ..] => match NAMES.iter().find(|(known, _)| known == name) {
@@ -56,6 +57,7 @@ impl fmt::Display for InWords {
         let Event { kind, code, value } = self.0;
         match NAMES.iter().find(|(_, known)| *known == code) {
             _ if self.0 == Event::REPORT => f.write_str("REPORT"),
+            _ if self.0 == Event::MT_REPORT => f.write_str("MT_REPORT"),
             _ if self.0 == Event::DROPPED => f.write_str("DROPPED"),
             Some((name, _)) if kind == EV_ABS => write!(f, "{name} {value}"),
             _ => write!(f, "EVENT {kind} {code} {value}"),

@@ -1,6 +1,6 @@
-//! The ways to say no, with their numbers: document 01's eight, and 11 of document 02.
+//! The ways to say no, with their numbers: document 01's eight, and 9, 10 and 11 of document 02.
 
-/// Why a call was not made; the first that fits in rising number.
+/// Why a call was not made; the first that fits in rising number, but for a type A frame: 2, 6, 9, 10, 4, 5.
 #[derive(Clone, Copy, PartialEq, Eq, Debug)]
 pub enum Refusal {
     Setup,
@@ -13,6 +13,10 @@ pub enum Refusal {
     Ragged,
     NotStale,
     Image,
+    /// A type A frame has too many contacts.
+    Contacts,
+    /// A type A frame is not made of whole packets and one report at its end.
+    Packets,
     /// A number of a command to the pod.
     Command,
 }
@@ -29,6 +33,8 @@ impl Refusal {
             Refusal::Ragged => 6,
             Refusal::NotStale => 7,
             Refusal::Image => 8,
+            Refusal::Contacts => 9,
+            Refusal::Packets => 10,
             Refusal::Command => 11,
         }
     }

@@ -11,12 +11,16 @@ pub enum Request {
     Commands,
     /// K6, pointer emulation. Every line of a writer has its numbers, and where this is turned off the option is off in all of them.
     Pointer,
+    /// K12, anonymous panels.
+    Anonymous,
 }
 
 impl Request {
     /// Each of them, for tests.
-    pub const ALL: &'static [Request] = &[Request::Recorder, Request::Force, Request::Commands, Request::Pointer];
+    pub const ALL: &'static [Request] =
+        &[Request::Recorder, Request::Force, Request::Commands, Request::Pointer, Request::Anonymous];
 
     /// Those that `second script`, its tally and the noise for `drive` know. A request is turned on by its name here, and `tools/corpus` then makes the corpus anew.
-    pub const MADE: &'static [Request] = Request::ALL;
+    pub const MADE: &'static [Request] =
+        &[Request::Recorder, Request::Force, Request::Commands, Request::Pointer, Request::Anonymous];
 }

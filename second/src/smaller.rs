@@ -1,5 +1,7 @@
 //! Smaller calls than one that was answered differently: what is tried to find the shortest script that shows a difference.
 
+mod anonymous;
+
 use crate::events::{events, Event, ABS_MT_SLOT, EV_ABS, RECORD};
 use crate::force::Force;
 use crate::maker::need_of;
@@ -45,7 +47,7 @@ fn weight_of(call: &Call) -> (usize, usize, u64, usize) {
     let line = call.line();
     let words = || line.split(' ').skip(1);
     let (size, slots) = match call {
-        Call::Write { size, writer, .. } => (*size, writer.setup.slots),
+        Call::Write { size, writer, .. } | Call::Anonymous { size, writer, .. } => (*size, writer.setup.slots),
         Call::Recorder(RecorderCall::Lay { size, .. })
         | Call::Force(ForceCall::Write { size, .. })
         | Call::Commands(CommandsCall::Write { size, .. }) => (*size, 0),
@@ -71,10 +73,8 @@ fn candidates(call: &Call, give: &mut dyn FnMut(Call)) {
             smaller_left_over(pieces, &mut |pieces| give(Call::PiecesAsk { pieces, slot: *slot }));
         }
         Call::Pod { pod, bytes } => smaller_pods(*pod, bytes, give),
-        Call::Write { .. } => {
-            smaller_room(call, give);
-            smaller_writers(call, give);
-        }
+        Call::Write { .. } => smaller_writers(call, give),
+        Call::Anonymous { .. } => anonymous::smaller_frames(call, give),
         Call::Good { reader } => {
             smaller_readers(reader, &mut |reader| give(Call::Good { reader }));
             for s in slots_of(&reader.setup) {
@@ -309,11 +309,12 @@ fn smaller_place(position: u64, size: usize, give: &mut dyn FnMut(u64, usize)) {
     }
 }
 
-/// A smaller state or frame into the same room.
+/// Less room, or a smaller state or frame into the same room.
 fn smaller_writers(call: &Call, give: &mut dyn FnMut(Call)) {
     let Call::Write { writer, position, size, frame } = call else {
         return;
     };
+    smaller_room(call, give);
     let need = need_of(writer, frame);
     let mut with = |writer: Writer, frame: Vec<i32>| {
         let mut with_pointer = |pointer: Pointer| {
@@ -334,13 +335,7 @@ fn smaller_writers(call: &Call, give: &mut dyn FnMut(Call)) {
     };
     smaller_numbers(frame, SLOT_NUMBERS, 0, &mut |frame| with(writer.clone(), frame));
     for s in slots_of(&writer.setup) {
-        let mut writer = writer.clone();
-        take_slot(&mut writer.table, s);
-        writer.pointer.ranks.copy_within(s + 1.., s);
-        writer.pointer.ranks[SLOTS - 1] = 0;
-        writer.setup.slots -= 1;
-        writer.current = number_without(writer.current, s);
-        with(writer, numbers_without(frame, SLOT_NUMBERS, s));
+        with(writer_without(writer, s), numbers_without(frame, SLOT_NUMBERS, s));
     }
     // A slot unused in table and frame alike stays quiet; in one of them alone it would begin or lift.
     for s in 0..SLOTS.min(frame.len() / SLOT_NUMBERS) {
@@ -455,6 +450,16 @@ fn slots_of(setup: &Setup) -> std::ops::Range<usize> {
 fn take_slot(table: &mut Table, s: usize) {
     table.copy_within(s + 1.., s);
     table[SLOTS - 1] = Slot::UNUSED;
+}
+
+fn writer_without(writer: &Writer, s: usize) -> Writer {
+    let mut fewer = writer.clone();
+    take_slot(&mut fewer.table, s);
+    fewer.pointer.ranks.copy_within(s + 1.., s);
+    fewer.pointer.ranks[SLOTS - 1] = 0;
+    fewer.setup.slots -= 1;
+    fewer.current = number_without(fewer.current, s);
+    fewer
 }
 
 fn reader_without(reader: &Reader, s: usize) -> Reader {

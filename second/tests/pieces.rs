@@ -54,7 +54,7 @@ fn any_cut_of_any_string_from_any_state() {
     let mut maker = Maker::new(41);
     let mut random = Random::new(41);
     let (mut strings, mut lost, mut shown, mut skipped) = (0, 0, 0, 0);
-    for _ in 0..70_000 {
+    for _ in 0..80_000 {
         let Some(Call::PiecesTake { pieces, cut }) = Call::parse(maker.next_line().as_bytes()) else {
             continue;
         };

@@ -6,7 +6,7 @@ use std::process::{Command, Output, Stdio};
 use std::sync::{Mutex, MutexGuard, PoisonError};
 
 const SETUP: [u8; 24] = [1, 0, 0, 0, 9, 0, 0, 0, 9, 0, 0, 0, 9, 0, 0, 0, 9, 0, 0, 0, 9, 0, 0, 0];
-const PROGRAMS: [&str; 11] = [
+const PROGRAMS: [&str; 12] = [
     "show_table",
     "crane_table",
     "write_frames",
@@ -17,6 +17,7 @@ const PROGRAMS: [&str; 11] = [
     "write_force",
     "show_commands",
     "write_commands",
+    "write_anonymous",
     "drive",
 ];
 
@@ -87,6 +88,18 @@ fn accepted_and_refused() {
 }
 
 #[test]
+fn frames_of_a_type_a_panel() {
+    let _turn = turn();
+    let run = |program: &str, bytes: &[u8]| output(&mut second(&[program]), bytes).status.code();
+    let report = |reports: usize| [&SETUP[..], &[0; 8].repeat(reports)].concat();
+    assert_eq!(run("write_anonymous", &SETUP), Some(0));
+    assert_eq!(run("write_anonymous", &report(3)), Some(0));
+    assert_eq!(run("write_anonymous", &report(3)[..40]), Some(0));
+    assert_eq!(run("write_anonymous", &report(3)[..41]), Some(1));
+    assert_eq!(run("write_anonymous", &SETUP[..23]), Some(1));
+}
+
+#[test]
 fn records_both_ways() {
     let _turn = turn();
     let bytes = output(&mut second(&["records", "encode"]), b"SETUP 1 9 9 9 9 9\nX 1\n");
@@ -108,6 +121,10 @@ fn failed_reads() {
         (
             &["write_frames"],
             format!("write_frames: {failed}refused 1\nwrite_frames: the setup is cut: 0 of 24 bytes\n"),
+        ),
+        (
+            &["write_anonymous"],
+            format!("write_anonymous: {failed}refused 1\nwrite_anonymous: the setup is cut: 0 of 24 bytes\n"),
         ),
         (&["record"], format!("record: {failed}refused 1\nrecord: the setup is cut: 0 of 24 bytes\n")),
         (&["replay"], format!("replay: {failed}replay: the setup is cut: 0 of 24 bytes\n")),
@@ -138,6 +155,7 @@ fn failed_writes() {
         (&["write_frames"], "write_frames", &SETUP),
         (&["show_pod"], "show_pod", &[1]),
         (&["record"], "record", &SETUP),
+        (&["write_anonymous"], "write_anonymous", &SETUP),
         (&["show_force"], "show_force", &[43]),
         (&["write_force"], "write_force", &[0; 9]),
         (&["show_commands"], "show_commands", &[8]),
@@ -259,6 +277,7 @@ fn an_argument_is_one_too_many() {
         (&["write_frames", "--pointer", "--pointer"], "--pointer"),
         (&["write_frames", "--pointer", "a"], "a"),
         (&["record", "--pointer"], "--pointer"),
+        (&["write_anonymous", "--pointer"], "--pointer"),
     ] {
         check(&output(&mut second(words), b""), 2, &said(words[0], argument));
     }

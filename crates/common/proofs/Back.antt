@@ -21,6 +21,8 @@ verdict-back W.NoRoom = refl
 verdict-back W.Ragged = refl
 verdict-back W.NotStale = refl
 verdict-back W.Image = refl
+verdict-back W.TooMany = refl
+verdict-back W.Unfinished = refl
 verdict-back W.Command = refl
 
 pub mode-back : (m : Mode) → modeFrom (modeOf m) ≡ m
@@ -44,6 +46,8 @@ verdict-seen C.noRoom = refl
 verdict-seen C.ragged = refl
 verdict-seen C.notStale = refl
 verdict-seen C.image = refl
+verdict-seen C.tooMany = refl
+verdict-seen C.unfinished = refl
 verdict-seen C.command = refl
 
 -- So the number of what is held of a verdict is document 01's.

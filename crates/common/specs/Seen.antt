@@ -31,6 +31,8 @@ verdictOf W.NoRoom = C.noRoom
 verdictOf W.Ragged = C.ragged
 verdictOf W.NotStale = C.notStale
 verdictOf W.Image = C.image
+verdictOf W.TooMany = C.tooMany
+verdictOf W.Unfinished = C.unfinished
 verdictOf W.Command = C.command
 
 -- The verdict of such a name.
@@ -44,6 +46,8 @@ verdictFrom C.noRoom = W.NoRoom
 verdictFrom C.ragged = W.Ragged
 verdictFrom C.notStale = W.NotStale
 verdictFrom C.image = W.Image
+verdictFrom C.tooMany = W.TooMany
+verdictFrom C.unfinished = W.Unfinished
 verdictFrom C.command = W.Command
 
 -- Document 01's number of a verdict, 11 of document 02's K13; 0 for accepted.

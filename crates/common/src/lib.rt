@@ -78,12 +78,15 @@ pub enum Verdict {
     Ragged,
     NotStale,
     Image,
+    // document 02's K12: more contacts than five or n; a type A frame that is not whole
+    TooMany,
+    Unfinished,
     // document 02's K13
     Command,
 }
 
 impl Verdict {
-    // Document 01's number of a refusal, 11 of 02's K13; 0 where the call was accepted.
+    // Document 01's number of a refusal, 9 and 10 of 02's K12, 11 of its K13; 0 where the call was accepted.
     pub fn number(self) -> u8
         ensures { λ r. ⌜ r ≡ verdictNumber self ⌝ }
     {
@@ -97,6 +100,8 @@ impl Verdict {
             Verdict::Ragged => 6,
             Verdict::NotStale => 7,
             Verdict::Image => 8,
+            Verdict::TooMany => 9,
+            Verdict::Unfinished => 10,
             Verdict::Command => 11,
         }
     }

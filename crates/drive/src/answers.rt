@@ -107,6 +107,21 @@ fn write(page: &mut [u8], out: Out, ns: &[u64]) -> Out {
     write_into(page, out, ns, &frame[..count], &mut buf[..size])
 }
 
+fn anonymous_into(page: &mut [u8], out: Out, ns: &[u64], bytes: &[u8], buf: &mut [u8]) -> Out {
+    let position = values::number(ns, WRITER) as usize;
+    let a = anonymous::write(states::writer_of(ns), bytes, buf, position);
+    let o = written(page, out, a);
+    parts::buffer(page, o, buf)
+}
+
+fn anonymous(page: &mut [u8], out: Out, ns: &[u64]) -> Out {
+    let mut bytes = [0u8; NUMBERS];
+    let count = values::bytes_of(ns, WRITER + 2, &mut bytes);
+    let mut buf = values::marks();
+    let size = stream::within(values::number(ns, WRITER + 1) as usize, &buf);
+    anonymous_into(page, out, ns, &bytes[..count], &mut buf[..size])
+}
+
 fn good(page: &mut [u8], out: Out, ns: &[u64]) -> Out {
     if reader::state_ok(states::reader_of(ns)) {
         return stream::say(page, out, b"1");
@@ -124,6 +139,7 @@ pub fn answer(page: &mut [u8], out: Out, call: Call, ns: &[u64]) -> Out {
         Call::Ask => ask(page, out, ns),
         Call::Good => good(page, out, ns),
         Call::Write => write(page, out, ns),
+        Call::Anonymous => anonymous(page, out, ns),
         Call::CraneFresh => crane::fresh(page, out, ns),
         Call::CraneRun => crane::run(page, out, ns),
         Call::CraneOne => crane::one(page, out, ns),

@@ -11,6 +11,7 @@ pub enum Call {
     Ask,
     Good,
     Write,
+    Anonymous,
     Start,
     Pod,
     CraneFresh,
@@ -195,6 +196,14 @@ fn fresh_or_force(line: &[u8], start: usize) -> Call {
     named(line, start, b"force_write", Call::ForceWrite)
 }
 
+// A question, or an anonymous panel's frame.
+fn ask_or_anonymous(line: &[u8], start: usize) -> Call {
+    if is(line, start, b"ask") {
+        return Call::Ask;
+    }
+    named(line, start, b"anonymous", Call::Anonymous)
+}
+
 // The call that a line's word at `start` names. The other names differ in their first letters.
 pub fn call_of(line: &[u8], start: usize) -> Call {
     if start >= line.len() {
@@ -207,7 +216,7 @@ pub fn call_of(line: &[u8], start: usize) -> Call {
         b'r' => run_or_recorder(line, start),
         b'o' => named(line, start, b"one", Call::One),
         b'l' => named(line, start, b"load", Call::Load),
-        b'a' => named(line, start, b"ask", Call::Ask),
+        b'a' => ask_or_anonymous(line, start),
         b'g' => named(line, start, b"good", Call::Good),
         b'w' => named(line, start, b"write", Call::Write),
         b's' => named(line, start, b"start", Call::Start),
@@ -345,7 +354,8 @@ fn pointer_kind(i: usize) -> Kind {
     }
 }
 
-fn write_kind(i: usize) -> Kind {
+// Number i of a call with a writer's state, a position, a size and then numbers of one kind.
+fn write_kind(i: usize, last: Kind) -> Kind {
     if i < OPTION {
         return state_kind(i, Kind::Bits32);
     }
@@ -355,7 +365,7 @@ fn write_kind(i: usize) -> Kind {
     match i - WRITER {
         0 => Kind::Bits64,
         1 => Kind::Size,
-        _ => Kind::Signed,
+        _ => last,
     }
 }
 
@@ -443,7 +453,8 @@ pub fn kind_at(call: Call, i: usize) -> Kind {
     match call {
         Call::Fresh => setup_kind(i),
         Call::New => new_kind(i),
-        Call::Write => write_kind(i),
+        Call::Write => write_kind(i, Kind::Signed),
+        Call::Anonymous => write_kind(i, Kind::Bits8),
         Call::Start => Kind::None,
         Call::Pod => pod_kind(i),
         Call::CraneFresh => crane_setup_kind(i),
@@ -479,6 +490,7 @@ pub fn fewest(call: Call) -> usize {
         Call::Ask => READER + 1,
         Call::Good => READER,
         Call::Write => WRITER + 2,
+        Call::Anonymous => WRITER + 2,
         Call::Start => 0,
         Call::Pod => POD + 1,
         Call::CraneFresh => CRANE_SETUP,

@@ -16,6 +16,7 @@
 -- Pieces: bytes as the line delivers them are read as `run` reads the whole records of their string, a load between them too (K5).
 -- PiecesCalls: its claims are the contracts, their refusals exact; pieces from a fresh state, and what is asked between them.
 -- Long: any shift at every moment: a reader given all its bytes, through the line's pieces or a recording too, one that comes late, a crane's, and the ids (K14).
+-- Anonymous: a type A frame written as type B: its refusals, the pairing, who is where, and that it is a frame of `write` (K12).
 pub mod Contracts
 pub mod Exact
 pub mod Demands
@@ -33,3 +34,4 @@ pub mod Cranes
 pub mod Pieces
 pub mod PiecesCalls
 pub mod Long
+pub mod Anonymous

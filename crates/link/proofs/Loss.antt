@@ -68,7 +68,7 @@ read-one-loses s e q g t h =
 
 -- ---- lost, until a load is accepted
 
-not-accepted : (v : C.Verdict) → (verdictFrom v ≡ Accepted → ⊥) → T (not (isAccepted v))
+pub not-accepted : (v : C.Verdict) → (verdictFrom v ≡ Accepted → ⊥) → T (not (isAccepted v))
 not-accepted C.accepted n = absurd (n refl)
 not-accepted C.setup n = tt
 not-accepted C.state n = tt
@@ -78,6 +78,8 @@ not-accepted C.noRoom n = tt
 not-accepted C.ragged n = tt
 not-accepted C.notStale n = tt
 not-accepted C.image n = tt
+not-accepted C.tooMany n = tt
+not-accepted C.unfinished n = tt
 not-accepted C.command n = tt
 
 refused-load : (s : ReaderState) (m : List ℤ) (c : ℕ) (q : LoadAnswer) → Loaded s m c q → (q .verdict ≡ Accepted → ⊥)

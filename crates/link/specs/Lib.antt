@@ -1,5 +1,5 @@
 -- What the calls promise, as claims of what is handed in and answered; what a host does, call after call; what K1 asks of the cranes' reader; what
--- K5 asks of one that takes pieces; what K6 asks of the writer; and what K14 asks of a long shift.
+-- K5 asks of one that takes pieces; what K6 asks of the writer; what K14 asks of a long shift; and what K12's call promises.
 pub mod Promises
 pub mod Host
 pub mod Shift
@@ -7,3 +7,4 @@ pub mod Pointer
 pub mod Cranes
 pub mod Pieces
 pub mod Long
+pub mod Anonymous

@@ -4,12 +4,11 @@ use mathlib.Core.Path.{_≡_, refl, sym, ap, _∙_, subst}
 use mathlib.Core.Bool.{Bool, true, false, not, cond, _&&_}
 use mathlib.Core.List.{List, [], _∷_}
 use mathlib.Core.Logic.{_↔_}
-use Prim.Native.Nat.{ℕ, _≤_, _<_, _%_}
-use native.Mathlib.Omega.{arith}
-use lib.Dec.{T, ltb, ltb→lt, eqb}
+use Prim.Native.Nat.{ℕ, _%_}
+use lib.Dec.{T, eqb, eqb-refl}
 use lib.IntN.{ℤ}
 use lib.ListN.{length}
-use Rattle.model.proofs.Bools.{both-left, both-right}
+use Rattle.model.proofs.Bools.{is-true, both-left, both-right}
 use Rattle.model.specs.Panel.{Layout, Setup, setupGood, panelOf}
 use Rattle.model.specs.Events.{Event}
 use Rattle.model.specs.Frame.{sized, valuesGood}
@@ -26,50 +25,59 @@ abbrev firstFailing : List Row → ℕ
 firstFailing [] = 0
 firstFailing (r ∷ rows) = cond (r .passes) (firstFailing rows) (r .number)
 
--- The rows' numbers rise, from above k on.
-abbrev rising : ℕ → List Row → Bool
-rising k [] = true
-rising k (r ∷ rows) = ltb k (r .number) && rising (r .number) rows
+-- n is none of the rows' numbers, and not 0.
+abbrev unnamed : ℕ → List Row → Bool
+unnamed n [] = not (eqb n 0)
+unnamed n (r ∷ rows) = not (eqb n (r .number)) && unnamed n rows
 
--- No number up to k is answered by rows above k, but 0.
-none-at : (k j : ℕ) (rows : List Row) → T (rising k rows) → 0 < j → j ≤ k → firstFailing rows ≡ j → ⊥
-none-at k j [] u p b e = omega arith
-none-at k j (r ∷ rows) u p b e =
-    let above = ltb→lt k (r .number) (both-left (ltb k (r .number)) _ u) in
-    by-test (r .passes) e (none-at (r .number) j rows (both-right (ltb k (r .number)) _ u) p (omega arith))
+-- The rows' numbers all differ, and none is 0; document 01's rise, document 02's need not (K12).
+abbrev distinct : List Row → Bool
+distinct [] = true
+distinct (r ∷ rows) = unnamed (r .number) rows && distinct rows
+
+differ : (a b : ℕ) → T (not (eqb a b)) → a ≡ b → ⊥
+differ a b t e = subst (λ x. T (not x)) (ap (eqb a) (sym e) ∙ is-true _ (eqb-refl a)) t
+
+-- A number that no row has is not answered.
+none-at : (n : ℕ) (rows : List Row) → T (unnamed n rows) → n ≡ firstFailing rows → ⊥
+none-at n [] u e = differ n 0 u e
+none-at n (r ∷ rows) u e = by-test (r .passes) e (none-at n rows (both-right (not (eqb n (r .number))) _ u))
   where
-    by-test : (t : Bool) → cond t (firstFailing rows) (r .number) ≡ j → (firstFailing rows ≡ j → ⊥) → ⊥
+    by-test : (t : Bool) → n ≡ cond t (firstFailing rows) (r .number) → (n ≡ firstFailing rows → ⊥) → ⊥
     by-test true e on = on e
-    by-test false e on = let above = ltb→lt k (r .number) (both-left (ltb k (r .number)) _ u) in omega arith
+    by-test false e on = differ n (r .number) (both-left (not (eqb n (r .number))) _ u) e
 
--- Where all earlier rows passed the number is that of the first row that fails, and where one failed it is that row's, which is lower.
-exact-from : (k : ℕ) (rows : List Row) (earlier : Bool) (n : ℕ) → T (rising k rows)
-    → (T earlier → n ≡ firstFailing rows) → (T (not earlier) → (0 < n) × (n ≤ k)) → ExactFrom earlier n rows
-exact-from k [] true n u a b = ((λ e. tt), (λ t. a tt))
-exact-from k [] false n u a b = ((λ e. absurd (omega (arith, b tt .0))), (λ t. absurd t))
-exact-from k (r ∷ rows) false n u a b =
-    let above = ltb→lt k (r .number) (both-left (ltb k (r .number)) _ u) in
-    let z = b tt in
-    let later = both-right (ltb k (r .number)) _ u in
-    (((λ e. absurd (omega arith)), (λ t. absurd t)), exact-from (r .number) rows false n later (λ t. absurd t) (λ t. (z .0, omega arith)))
-exact-from k (r ∷ rows) true n u a b =
-    let above = ltb→lt k (r .number) (both-left (ltb k (r .number)) _ u) in
-    let later = both-right (ltb k (r .number)) _ u in
-    by-test (r .passes) (a tt) (exact-from (r .number) rows true n later) (exact-from (r .number) rows false n later (λ t. absurd t))
-    (λ e. none-at (r .number) (r .number) rows later (omega arith) (omega arith) e)
-    (omega arith)
+-- Where all earlier rows passed the number is that of the first row that fails, and where one failed it is that row's, which no later one has.
+exact-from : (rows : List Row) (earlier : Bool) (n : ℕ) → T (distinct rows)
+    → (T earlier → n ≡ firstFailing rows) → (T (not earlier) → T (unnamed n rows)) → ExactFrom earlier n rows
+exact-from [] true n u a b = ((λ e. tt), (λ t. a tt))
+exact-from [] false n u a b = ((λ e. absurd (differ n 0 (b tt) e)), (λ t. absurd t))
+exact-from (r ∷ rows) false n u a b =
+    let other = not (eqb n (r .number)) in
+    let later = both-right (unnamed (r .number) rows) _ u in (
+      ((λ e. absurd (differ n (r .number) (both-left other _ (b tt)) e)), (λ t. absurd t)),
+      exact-from rows false n later (λ t. absurd t) (λ t. both-right other _ (b tt)),
+    )
+exact-from (r ∷ rows) true n u a b =
+    let later = both-right (unnamed (r .number) rows) _ u in
+    by-test (r .passes) (a tt) (exact-from rows true n later) (exact-from rows false n later (λ q. absurd q))
   where
     by-test : (t : Bool) → n ≡ cond t (firstFailing rows) (r .number)
-        → ((T true → n ≡ firstFailing rows) → (T (not true) → (0 < n) × (n ≤ r .number)) → ExactFrom true n rows)
-        → ((T (not false) → (0 < n) × (n ≤ r .number)) → ExactFrom false n rows)
-        → (firstFailing rows ≡ r .number → ⊥) → 0 < r .number
+        → ((T true → n ≡ firstFailing rows) → (T (not true) → T (unnamed n rows)) → ExactFrom true n rows)
+        → ((T (not false) → T (unnamed n rows)) → ExactFrom false n rows)
         → ((n ≡ r .number) ↔ T (not t)) × ExactFrom t n rows
-    by-test true e on off none p = (((λ q. none (sym e ∙ q)), (λ q. absurd q)), on (λ q. e) (λ q. absurd q))
-    by-test false e on off none p = (((λ q. tt), (λ q. e)), off (λ q. (omega arith, omega arith)))
+    by-test true e on off = (
+      ((λ q. none-at (r .number) rows (both-left (unnamed (r .number) rows) _ u) (sym q ∙ e)), (λ q. absurd q)),
+      on (λ q. e) (λ q. absurd q),
+    )
+    by-test false e on off = (
+      ((λ q. tt), (λ q. e)),
+      off (λ q. subst (λ m. T (unnamed m rows)) (sym e) (both-left (unnamed (r .number) rows) _ u)),
+    )
 
--- A call that answers the first row that fails of rows that rise answers exactly as the table says.
-pub exact : (rows : List Row) (n : ℕ) → T (rising 0 rows) → n ≡ firstFailing rows → Exact n rows
-exact rows n u e = exact-from 0 rows true n u (λ t. e) (λ t. absurd t)
+-- A call that answers the first row that fails of rows whose numbers differ answers exactly as the table says.
+pub exact : (rows : List Row) (n : ℕ) → T (distinct rows) → n ≡ firstFailing rows → Exact n rows
+exact rows n u e = exact-from rows true n u (λ t. e) (λ t. absurd t)
 
 -- ---- a call's verdict
 
@@ -88,6 +96,8 @@ accepted-only C.noRoom t = absurd t
 accepted-only C.ragged t = absurd t
 accepted-only C.notStale t = absurd t
 accepted-only C.image t = absurd t
+accepted-only C.tooMany t = absurd t
+accepted-only C.unfinished t = absurd t
 accepted-only C.command t = absurd t
 
 -- An answer that is accepted by name where the verdict is, and else carries it, has the verdict.

@@ -27,7 +27,7 @@ full-slot (f ∷ fs) [] g = absurd g
 full-slot (f ∷ fs) (v ∷ s) g = ap suc (full-slot fs s (both-right (fits f v) (goodSlot fs s) g))
 
 -- What stands behind `front` in a list, read back.
-behind : (front s rest : List ℤ) → numbersFrom (length s) (front ++ (s ++ rest)) (length front) ≡ s
+pub behind : (front s rest : List ℤ) → numbersFrom (length s) (front ++ (s ++ rest)) (length front) ≡ s
 behind front [] rest = refl
 behind front (v ∷ s) rest =
     let joined : front ++ (v ∷ (s ++ rest)) ≡ (front ++ v ∷ []) ++ (s ++ rest) = sym (append-snoc front v (s ++ rest)) in
@@ -60,7 +60,7 @@ module _ (fs : List Field) where
       omega (arith, length-append s (flat (take n t)), here, size-is n t (both-right (goodSlot fs s) (goodRecords fs n t) g), mul-suc (length fs) n)
 
   -- The records past the slots are those that a load makes.
-  unused-past : (n : ℕ) (t : Table) → T (goodRecords fs n t) → take n t ++ replicate (length t - n) (unusedSlot fs) ≡ t
+  pub unused-past : (n : ℕ) (t : Table) → T (goodRecords fs n t) → take n t ++ replicate (length t - n) (unusedSlot fs) ≡ t
   unused-past zero [] g = refl
   unused-past zero (s ∷ t) g =
       let here = eqSlot→eq s (unusedSlot fs) (both-left (goodPlace fs zero s) (goodRecords fs zero t) g) in

@@ -107,6 +107,19 @@
 --   PointerNarrow: K1 with it: a shorter reader shows the first numbers of the writer's slots, and skips the emulated events too.
 --   Long: K14: a reader that is given every byte of a shift, one that comes late and loads the writer's table, and the ids.
 --   Births: the followed contact began in the earliest call.
+-- Anonymous panels (K12)
+--   Packets: what a type A frame tells: the plain form reads back, what is skipped changes nothing, the last of a repeated code counts, what leaves a frame unfinished.
+--   PairingChoice: the choice of the least, and that it goes by the choices that are allowed and what they cost.
+--   PairingBest: the pairing that is found is Best: most pairs, least total, first in dictionary order.
+--   PairingUnique: no other is.
+--   PairingCount: it has as many pairs as the smaller side has contacts.
+--   PairingPlaced: which contact each slot then has: those left over find room, and each new contact is placed once.
+--   Placing: each number of a pairing or a placing is a new contact's or `alone`.
+--   Anonymous: the frame that is made is one that the writer takes.
+--   AnonymousCalls: the call is the writer's on that frame, or a refusal, each exactly when; a refusal leaves all.
+--   AnonymousBest: the contacts of a good table and a good frame are within what PairingBest asks.
+--   AnonymousPlaces: who is where.
+--   AnonymousSlots: what becomes of each slot.
 pub mod Bench
 pub mod AtReport
 pub mod Cranes
@@ -200,4 +213,16 @@ pub mod PointerPlain
 pub mod PointerNarrow
 pub mod Long
 pub mod Births
+pub mod Packets
+pub mod PairingChoice
+pub mod PairingBest
+pub mod PairingUnique
+pub mod PairingCount
+pub mod PairingPlaced
+pub mod Placing
+pub mod Anonymous
+pub mod AnonymousCalls
+pub mod AnonymousSlots
+pub mod AnonymousBest
+pub mod AnonymousPlaces
 pub mod Instances

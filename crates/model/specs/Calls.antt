@@ -19,9 +19,9 @@ use Rattle.model.specs.States.{Writer, WriterState, writerGood, ReaderSt
 
 -- A call is accepted, or refused by name.
 pub data Verdict : Type 0 where
-  accepted setup state frame value noRoom ragged notStale image command : Verdict
+  accepted setup state frame value noRoom ragged notStale image tooMany unfinished command : Verdict
 
--- Document 01's number of a refusal, and 11 of document 02's K13; 0 for none.
+-- Document 01's number of a refusal, 9 and 10 of document 02's K12, and 11 of its K13; 0 for none.
 abbrev pub verdictNumber : Verdict → ℕ
 verdictNumber accepted = 0
 verdictNumber setup = 1
@@ -32,6 +32,8 @@ verdictNumber noRoom = 5
 verdictNumber ragged = 6
 verdictNumber notStale = 7
 verdictNumber image = 8
+verdictNumber tooMany = 9
+verdictNumber unfinished = 10
 verdictNumber command = 11
 
 -- Refused by this name unless the test passes; then the later tests decide.

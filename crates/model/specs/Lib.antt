@@ -31,4 +31,7 @@ pub mod Pointing
 pub mod PointerSheet
 pub mod PointerShift
 pub mod PointerNarrow
+pub mod Pairing
+pub mod Packets
+pub mod Anonymous
 pub mod Unique

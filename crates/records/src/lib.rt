@@ -16,6 +16,9 @@ pub const REPORT: u16 = 0;
 
 pub const DROPPED: u16 = 3;
 
+// Closes a contact of an anonymous panel, document 02's K12.
+pub const MT_REPORT: u16 = 2;
+
 pub const SLOT: u16 = 0x2f;
 
 pub const TOUCH_MAJOR: u16 = 0x30;

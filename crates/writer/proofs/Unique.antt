@@ -3,10 +3,18 @@ use mathlib.Core.Path.{sym, _∙_}
 use denote.Ref.{now}
 use Rattle.model.specs.Unique.{OneAnswer, OneLeft}
 use Rattle.writer.proofs.WriterState.fresh.Reads as fresh
+use Rattle.writer.proofs.state_ok.Reads as state-ok
+use Rattle.writer.proofs.refused.Reads as refused
 use Rattle.writer.proofs.write.Reads as write
 
 pub fresh-one : OneAnswer fresh.Learnt
 fresh-one κs a r q s t e g = e ∙ sym g
+
+pub state-ok-one : OneAnswer state-ok.Learnt
+state-ok-one κs a r q s t e g = e ∙ sym g
+
+pub refused-one : OneAnswer refused.Learnt
+refused-one κs a r q s t e g = e ∙ sym g
 
 pub write-one : OneAnswer write.Learnt
 write-one κs a r q s t e g = e .0 ∙ sym (g .0)

@@ -145,7 +145,7 @@ impl WriterState {
     }
 }
 
-fn state_ok(s: WriterState) -> bool
+pub fn state_ok(s: WriterState) -> bool
     ensures { λ r. ⌜ r ≡ pointerGood base (seen s) ⌝ }
 {
     let setup = s.setup;
@@ -168,7 +168,7 @@ fn state_ok(s: WriterState) -> bool
     pointer::pointing_ok(s.pointer, setup, table, ranks, told)
 }
 
-fn refused(verdict: Verdict, state: WriterState, need: usize) -> Written
+pub fn refused(verdict: Verdict, state: WriterState, need: usize) -> Written
     ensures { λ r. ⌜ r ≡ notWrittenBy verdict state need ⌝ }
 {
     Written {

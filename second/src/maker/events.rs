@@ -13,7 +13,7 @@ const SYN_CODES: u64 = 0x10;
 const STRIDE: u64 = 45;
 
 /// It closes a contact of a type A panel, and stands between the two listed codes of its type.
-const SYN_MT_REPORT: (u16, u16) = (EV_SYN, 2);
+const MT_REPORT: (u16, u16) = (EV_SYN, SYN_MT_REPORT);
 
 /// Neighbours of the listed types and codes, and those that a cut or swapped half-word would take for one.
 const UNLISTED: &[(u16, u16)] = &[
@@ -157,7 +157,7 @@ impl Maker {
 
     fn unknown(&mut self, kind: u16, code: u16) -> Event {
         self.tag(match (kind, code) {
-            SYN_MT_REPORT => "record: SYN_MT_REPORT",
+            MT_REPORT => "record: SYN_MT_REPORT",
             (EV_SYN, _) => "record: unknown code of type 0",
             // Unknown to a crane alone.
             (EV_ABS, ABS_MT_TOUCH_MAJOR | ABS_MT_TOUCH_MINOR) => "record: a touch size",
@@ -182,7 +182,7 @@ impl Maker {
         let bit = 1u16 << self.random.below(16);
         match self.random.below(13) {
             0 => self.random.pick(UNLISTED),
-            12 => self.random.pick(&[SYN_MT_REPORT, SYN_MT_REPORT, (EV_SYN, 1), (EV_SYN, 4)]),
+            12 => self.random.pick(&[MT_REPORT, MT_REPORT, (EV_SYN, 1), (EV_SYN, 4)]),
             1..=3 => (kind ^ bit, code),
             4..=6 => (kind, code ^ bit),
             7 | 8 => (self.random.below(TYPES) as u16, code),

@@ -227,7 +227,7 @@ impl Maker {
             }
             Call::New { .. } => return setup.chain([(setup_numbers(layout) + 1, NO_FLAG)]).collect(),
             Call::Fresh(..) | Call::PiecesFresh(_) => return setup.collect(),
-            Call::Write { .. } => (1, vec![NO_32_BITS]),
+            Call::Write { .. } | Call::Anonymous { .. } => (1, vec![NO_32_BITS]),
             _ => (2, vec![NO_MODE, NO_MODE]),
         };
         let head = head_numbers(layout);
@@ -269,9 +269,10 @@ impl Maker {
             Call::Load { .. } | Call::PiecesLoad { .. } if last > state => {
                 vec![(state, NO_64_BITS), (last, NO_SIGNED_32)]
             }
-            Call::Write { .. } => {
+            Call::Write { .. } | Call::Anonymous { .. } => {
                 let room = [(WRITER_NUMBERS + 1, NO_64_BITS), (WRITER_NUMBERS + 2, NO_SIZE)];
-                let frame = if last > state { vec![(last, NO_SIGNED_32)] } else { Vec::new() };
+                let outside = if let Call::Write { .. } = call { NO_SIGNED_32 } else { NO_BYTE };
+                let frame = if last > state { vec![(last, outside)] } else { Vec::new() };
                 [&room[..], &room, &frame, &self.pointer_places()].concat()
             }
             Call::Recorder(call) => recorder_places(call, last),
@@ -295,7 +296,7 @@ fn fixed(call: &Call) -> usize {
         Call::Ask { .. } | Call::Load { .. } => reader_numbers(layout) + 1,
         Call::One { .. } => reader_numbers(layout) + 3,
         Call::Run { .. } | Call::Good { .. } => reader_numbers(layout),
-        Call::Write { .. } => WRITER_NUMBERS + 2,
+        Call::Write { .. } | Call::Anonymous { .. } => WRITER_NUMBERS + 2,
         Call::Recorder(RecorderCall::Lay { .. }) => 3,
         Call::Recorder(_) | Call::Force(ForceCall::Read { .. }) | Call::Commands(CommandsCall::Read { .. }) => 1,
         Call::Force(ForceCall::Write { .. }) => 8,
@@ -351,7 +352,7 @@ fn recorder_places(call: &RecorderCall, last: usize) -> Vec<(usize, Outside)> {
 pub(super) fn takes_any_count(call: &Call) -> bool {
     let is_load = matches!(call, Call::Load { .. } | Call::PiecesLoad { .. });
     let is_read = matches!(call, Call::Force(ForceCall::Read { .. }) | Call::Commands(CommandsCall::Read { .. }));
-    let is_bytes = is_read || matches!(call, Call::Recorder(_));
+    let is_bytes = is_read || matches!(call, Call::Recorder(_) | Call::Anonymous { .. });
     is_load || is_bytes || matches!(call, Call::Run { .. } | Call::Write { .. } | Call::Pod { .. })
 }
 
@@ -365,6 +366,7 @@ fn other_word(call: &Call) -> String {
         Call::Load { .. } => "list",
         Call::Ask { .. } => "all",
         Call::Write { .. } => "wrote",
+        Call::Anonymous { .. } => "another",
         Call::Good { .. } => "get",
         Call::PiecesFresh(_) => "pieces_first",
         Call::PiecesTake { .. } => "pieces_tell",

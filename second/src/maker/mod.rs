@@ -1,5 +1,6 @@
 //! Seeded random scripts: calls of every kind, good, at the edges of every range, and broken in each way.
 
+mod anonymous;
 mod broken;
 mod commands;
 mod events;
@@ -9,6 +10,7 @@ mod ids;
 mod lines;
 mod loads;
 mod numbers;
+mod packets;
 mod pieces;
 mod pods;
 pub mod pointer;
@@ -18,6 +20,7 @@ mod states;
 pub mod tried;
 mod writing;
 
+pub(crate) use anonymous::need_of as need_of_anonymous;
 pub(crate) use writing::need_of;
 
 use crate::pod::Pod;
@@ -41,6 +44,7 @@ const fn share(request: Request) -> u64 {
     match request {
         Request::Recorder | Request::Force | Request::Commands => 12,
         Request::Pointer => 16,
+        Request::Anonymous => 24,
     }
 }
 
@@ -50,6 +54,8 @@ pub struct Maker {
     writers: Vec<Writer>,
     /// Those with the option on.
     pointing: Vec<Writer>,
+    /// Those that type A frames are for.
+    anonymous: Vec<Writer>,
     readers: Vec<Reader>,
     cranes: Vec<Reader>,
     pod: Pod,
@@ -72,6 +78,7 @@ impl Maker {
             random: Random::new(seed),
             writers: Vec::new(),
             pointing: Vec::new(),
+            anonymous: Vec::new(),
             readers: Vec::new(),
             cranes: Vec::new(),
             pod: Pod::FRESH,
@@ -151,6 +158,7 @@ impl Maker {
             Request::Force => Call::Force(self.force_call()),
             Request::Commands => Call::Commands(self.commands_call()),
             Request::Pointer => self.pointer_call(),
+            Request::Anonymous => self.anonymous_call(),
         }
     }
 
@@ -211,9 +219,11 @@ mod tests {
             assert_eq!(comment.starts_with("# line: "), answer == BAD_LINE, "{comment}\n{line}");
             if comment.contains("broken: ") {
                 let call = Call::parse(line.as_bytes()).unwrap();
-                let good = match &call {
-                    Call::Write { writer, .. } => writer.is_well_formed(),
-                    _ => call.pieces().map(|pieces| &pieces.reader).or(call.reader()).expect(comment).is_well_formed(),
+                let good = match call.writer() {
+                    Some(writer) => writer.is_well_formed(),
+                    None => {
+                        call.pieces().map(|pieces| &pieces.reader).or(call.reader()).expect(comment).is_well_formed()
+                    }
                 };
                 assert!(!good, "{comment}\n{line}");
             } else if comment.contains("pieces: held too many") || comment.contains("pieces: unused place") {

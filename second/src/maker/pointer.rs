@@ -199,7 +199,7 @@ impl Maker {
     }
 
     /// One part of what K6 asks of a state is broken.
-    fn break_pointer(&mut self, writer: &mut Writer) {
+    pub(super) fn break_pointer(&mut self, writer: &mut Writer) {
         let whole = writer.clone();
         loop {
             *writer = whole.clone();

@@ -252,6 +252,35 @@ const POINTER: &[&str] = &[
     "line: an option that is neither 0 nor 1",
 ];
 
+/// What is tried with anonymous panels.
+const ANONYMOUS: &[&str] = &[
+    "anonymous: a full table",
+    "anonymous: near the old contacts",
+    "anonymous: on a grid",
+    "anonymous: in the corners",
+    "anonymous: where old contacts are",
+    "anonymous: in the middle of two old contacts",
+    "anonymous: anywhere",
+    "anonymous: a packet with none",
+    "anonymous: a repeated code",
+    "anonymous: skipped records",
+    "anonymous: skipped records behind the report",
+    "anonymous: ragged",
+    "anonymous: more than five contacts",
+    "anonymous: more contacts than n",
+    "anonymous: a value out of range",
+    "anonymous: pressure 0",
+    "anonymous: a number is left out",
+    "anonymous: a SYN_MT_REPORT is left out",
+    "anonymous: SYN_DROPPED",
+    "anonymous: no report",
+    "anonymous: two reports",
+    "anonymous: a packet behind the report",
+    "anonymous: a SYN_MT_REPORT behind the report",
+    "anonymous: a number behind the last packet",
+    "anonymous: no records",
+];
+
 /// What is tried with a request that `drive` did not always know.
 fn later(request: Request) -> &'static [&'static str] {
     match request {
@@ -259,6 +288,7 @@ fn later(request: Request) -> &'static [&'static str] {
         Request::Force => FORCE,
         Request::Commands => COMMANDS,
         Request::Pointer => POINTER,
+        Request::Anonymous => ANONYMOUS,
     }
 }
 

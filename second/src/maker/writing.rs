@@ -3,9 +3,10 @@
 use super::loads::resized;
 use super::Maker;
 use crate::events::RECORD;
+use crate::refusal::Refusal;
 use crate::script::{Call, LARGEST_BUFFER};
 use crate::table::{Layout, Setup, Slot, MAJOR, MINOR, NARROW, NUMBERS, PRESSURE, SLOTS, SLOT_NUMBERS, X, Y};
-use crate::writer::{Writer, LARGEST_FRAME};
+use crate::writer::{Writer, Written, LARGEST_FRAME};
 
 /// What [`Maker::press_least`] tries, by kind and pressure.
 const LEAST: [[&str; 2]; 3] = [
@@ -291,7 +292,16 @@ pub(crate) fn need_of(writer: &Writer, frame: &[i32]) -> Option<usize> {
 
 /// The writer behind the call; where that is refused it stays.
 pub(super) fn move_on(writer: &mut Writer, frame: &[i32], size: usize, position: u64) {
-    let _ = writer.write(frame, &mut vec![0; size], position);
+    move_on_by(writer, size, |writer, buffer| writer.write(frame, buffer, position));
+}
+
+/// The same by any call with a buffer.
+pub(super) fn move_on_by(
+    writer: &mut Writer,
+    size: usize,
+    call: impl FnOnce(&mut Writer, &mut [u8]) -> Result<Written, Refusal>,
+) {
+    let _ = call(writer, &mut vec![0; size]);
 }
 
 /// The rows of a frame that changes none of these slots.

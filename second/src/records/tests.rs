@@ -27,6 +27,16 @@ fn p1_and_its_text() {
     assert_eq!(decoded(&bytes, false), format!("SETUP 2 4000 4000 255 255 255\n{lines}"));
 }
 
+/// A type A frame; with a value SYN_MT_REPORT is an event as any other.
+#[test]
+fn packets_and_their_text() {
+    let lines = "X 1\nY 2\nPRESSURE 3\nMT_REPORT\nREPORT\nEVENT 0 2 7\nEVENT 3 2 0\nDROPPED\n";
+    let bytes = encoded(&format!("SETUP 1 9 9 9 9 9\n{lines}"));
+    assert_eq!(bytes[48..64], [0, 0, 2, 0, 0, 0, 0, 0, 0, 0, 0, 0, 0, 0, 0, 0]);
+    assert_eq!(decoded(&bytes, false), format!("SETUP 1 9 9 9 9 9\n{lines}"));
+    assert_eq!(encoded("EVENT 0 2 0\n"), encoded("MT_REPORT\n"));
+}
+
 #[test]
 fn frames_and_cut_ones() {
     let text = "SETUP 1 9 9 9 9 9\nFRAME 1 2 3 4 5 6\nFRAME 0 -1 0 0 0 0\nBYTES 01 00\n";
@@ -43,8 +53,12 @@ fn any_bytes(random: &mut Random, length: usize) -> Vec<u8> {
         for record in bytes[HEADER..].chunks_exact_mut(8) {
             record[0] = random.pick(&[0, 3]);
             record[1] = 0;
-            record[2] = random.pick(&[0, 3, 0x2f, 0x30, 0x31, 0x35, 0x36, 0x39, 0x3a, 0x33]);
+            record[2] = random.pick(&[0, 2, 3, 0x2f, 0x30, 0x31, 0x35, 0x36, 0x39, 0x3a, 0x33]);
             record[3] = 0;
+            // REPORT, MT_REPORT and DROPPED stand for a value of 0 alone.
+            if random.once_in(2) {
+                record[4..].fill(0);
+            }
         }
     }
     bytes
@@ -100,6 +114,7 @@ fn errors_name_their_line() {
         ("X 1 2\n", 1),
         ("X 2147483648\n", 1),
         ("REPORT 1\n", 1),
+        ("MT_REPORT 0\n", 1),
         ("EVENT 65536 0 0\n", 1),
         ("EVENT 3 0xfffff 0\n", 1),
         ("X 1\nSETUP 1 2 3 4 9 9\n", 2),

@@ -36,7 +36,14 @@ impl Call {
                 line.reader(&reader);
             }
             Call::Ask { reader, slot } => line.asked(reader.layout, reader.ask(*slot)),
-            Call::Write { writer, position, size, frame } => line.written(writer.clone(), *position, *size, frame),
+            Call::Write { writer, position, size, frame } => {
+                line.written(writer.clone(), *size, |writer, buffer| writer.write(frame, buffer, *position));
+            }
+            Call::Anonymous { writer, position, size, records } => {
+                line.written(writer.clone(), *size, |writer, buffer| {
+                    writer.write_anonymous(records, buffer, *position)
+                });
+            }
             Call::Good { reader } => line.put(reader.is_well_formed() as u8),
             Call::PiecesFresh(setup) => {
                 let made = PieceReader::fresh(*setup);
@@ -94,9 +101,14 @@ impl Line {
         }
     }
 
-    fn written(&mut self, mut writer: Writer, position: u64, size: usize, frame: &[i32]) {
+    fn written(
+        &mut self,
+        mut writer: Writer,
+        size: usize,
+        write: impl Fn(&mut Writer, &mut [u8]) -> Result<Written, Refusal>,
+    ) {
         let mut buffer = marks(size);
-        let written = writer.write(frame, &mut buffer, position);
+        let written = write(&mut writer, &mut buffer);
         self.verdict(&written);
         self.writer(&writer);
         let Written { events, changed } = written.unwrap_or(Written::ZEROS);

@@ -81,6 +81,7 @@ pub enum Call {
     Load { reader: Reader, current: SlotNumber, image: Vec<i32> },
     Ask { reader: Reader, slot: SlotNumber },
     Write { writer: Writer, position: u64, size: usize, frame: Vec<i32> },
+    Anonymous { writer: Writer, position: u64, size: usize, records: Vec<u8> },
     Good { reader: Reader },
     PiecesFresh(Setup),
     PiecesTake { pieces: PieceReader, cut: Cut },
@@ -157,7 +158,7 @@ impl Call {
         let mut numbers = Numbers::of(words)?;
         let (layout, name) = layout_of(word);
         let call = match (layout, name) {
-            (Layout::Panel, "new" | "write" | "start" | "pod") => numbers.other_call(name)?,
+            (Layout::Panel, "new" | "write" | "anonymous" | "start" | "pod") => numbers.other_call(name)?,
             (Layout::Panel, _) if name.starts_with(PIECES) => numbers.pieces_call(name)?,
             (Layout::Panel, _) if name.starts_with(RECORDER) => {
                 Call::Recorder(RecorderCall::parse(name, &mut numbers)?)
@@ -191,6 +192,14 @@ impl Call {
         }
     }
 
+    /// The writer whose state the call carries.
+    pub fn writer(&self) -> Option<&Writer> {
+        match self {
+            Call::Write { writer, .. } | Call::Anonymous { writer, .. } => Some(writer),
+            _ => None,
+        }
+    }
+
     /// The reader of pieces whose state the call carries.
     pub fn pieces(&self) -> Option<&PieceReader> {
         match self {
@@ -211,6 +220,7 @@ impl Call {
             Call::Load { .. } => "load",
             Call::Ask { .. } => "ask",
             Call::Write { .. } => "write",
+            Call::Anonymous { .. } => "anonymous",
             Call::Good { .. } => "good",
             Call::PiecesFresh(_) => "pieces_fresh",
             Call::PiecesTake { .. } => "pieces_take",
@@ -235,7 +245,7 @@ impl Call {
             Call::PiecesTake { pieces, .. } | Call::PiecesLoad { pieces, .. } | Call::PiecesAsk { pieces, .. } => {
                 line.pieces(pieces);
             }
-            Call::Write { writer, .. } => line.writer(writer),
+            Call::Write { writer, .. } | Call::Anonymous { writer, .. } => line.writer(writer),
             Call::Pod { pod, .. } => line.pod(pod),
             Call::Start | Call::Recorder(_) | Call::Force(_) | Call::Commands(_) => {}
             Call::Run { reader, .. }
@@ -270,6 +280,11 @@ impl Call {
                 line.put(position);
                 line.put(size);
                 line.all(frame);
+            }
+            Call::Anonymous { position, size, records, .. } => {
+                line.put(position);
+                line.put(size);
+                line.all(records);
             }
             Call::Recorder(call) => call.put(line),
             Call::Force(call) => call.put(line),

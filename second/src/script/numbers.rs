@@ -58,6 +58,12 @@ impl Numbers {
             "write" => {
                 Call::Write { writer: self.writer()?, position: self.one()?, size: self.size()?, frame: self.rest()? }
             }
+            "anonymous" => Call::Anonymous {
+                writer: self.writer()?,
+                position: self.one()?,
+                size: self.size()?,
+                records: self.rest()?,
+            },
             "start" => Call::Start,
             "pod" => Call::Pod { pod: self.pod()?, bytes: self.rest().filter(|bytes: &Vec<u8>| !bytes.is_empty())? },
             _ => return None,

@@ -266,6 +266,26 @@ fn a_writer_with_a_display() {
     );
 }
 
+/// Answered as `write` is; the records may be none, and of any count of bytes.
+#[test]
+fn a_type_a_frame() {
+    let (table, off) = (empty(), off());
+    let landed = format!("0 3 4 5 0 0 {}", UNUSED.repeat(SLOTS - 1));
+    let numbers = "3 0 53 0 3 0 0 0 3 0 54 0 4 0 0 0 3 0 58 0 5 0 0 0";
+    let records = format!("{numbers} 0 0 2 0 0 0 0 0 0 0 0 0 0 0 0 0");
+    let fresh = format!("1 9 9 9 9 9 0 0 {table}{off}");
+    assert_eq!(
+        answer(&format!("anonymous {fresh}1 42 {records}")),
+        format!("0 1 9 9 9 9 9 0 1 {landed}{off}5 1 0 : 11 3 0 57 0 0 0 0 0 {numbers} 0 0 0 0 0 0 0 0 248")
+    );
+    assert_eq!(answer(&format!("anonymous {fresh}0 3 {records}")), format!("5 {fresh}0 0 40 : 11 48 85"));
+    assert_eq!(answer(&format!("anonymous {fresh}0 0 0 0 0 0 0 0 0 0")), format!("0 {fresh}0 0 0 :"));
+    assert_eq!(answer(&format!("anonymous {fresh}0 0")), format!("10 {fresh}0 0 0 :"));
+    assert_eq!(answer(&format!("anonymous {fresh}0 1 7")), format!("6 {fresh}0 0 0 : 11"));
+    let twice = format!("{} {0} 0 0 0 0 0 0 0 0", &records[..records.len() - 16]);
+    assert_eq!(answer(&format!("anonymous {fresh}0 1 {twice}")), format!("9 {fresh}0 0 0 : 11"));
+}
+
 #[test]
 fn a_buffer_keeps_its_marks() {
     let writer = format!("1 9 9 9 9 9 0 0 {}{}", empty(), off());
@@ -320,6 +340,10 @@ fn lines_that_are_no_call() {
         format!("write 1 9 9 9 9 9 0 0 {table}0 0 0 -1 0 {ranks}0 0 0 0 0 0 0 0"),
         format!("write 1 9 9 9 9 9 0 0 {table}0 0 0 0 4294967296 {ranks}0 0 0 0 0 0 0 0"),
         format!("write 1 9 9 9 9 9 0 0 {table}0 0 0 0 0 256 {}0 0 0 0 0 0 0 0", &ranks[2..]),
+        format!("anonymous 1 9 9 9 9 9 0 0 {table}{off}0"),
+        format!("anonymous 1 9 9 9 9 9 0 0 {table}{off}0 4097"),
+        format!("anonymous 1 9 9 9 9 9 0 0 {table}{off}0 0 256"),
+        format!("anonymous 1 9 9 9 9 9 0 0 {table}{off}0 0 -1"),
         format!("ask 1 9 9 9 9 9 0 3 {table}{table}0"),
         format!("crane_ask 1 9 9 9 0 3 {crane}{crane}0"),
         format!("ask 1 9 9 9 0 0 {crane}{crane}0"),
@@ -330,7 +354,7 @@ fn lines_that_are_no_call() {
     }
 }
 
-const NAMES: [&str; 27] = [
+const NAMES: [&str; 28] = [
     "fresh",
     "new",
     "run",
@@ -339,6 +363,7 @@ const NAMES: [&str; 27] = [
     "ask",
     "good",
     "write",
+    "anonymous",
     "start",
     "pod",
     "crane_fresh",
@@ -375,6 +400,7 @@ fn numbers_for(name: &str) -> String {
         (_, "one") => format!("{reader}3 57 0"),
         (_, "load" | "ask") => format!("{reader}0"),
         (_, "write") => format!("1 9 9 9 9 9 0 0 {}{}0 0 0 0 0 0 0 0", empty(), off()),
+        (_, "anonymous") => format!("1 9 9 9 9 9 0 0 {}{}0 0 0 0", empty(), off()),
         (_, "pod") => "0 0 0 0 0 0 0 0 1".to_string(),
         (_, "pieces_fresh") => "1 2 3 4 5 6".to_string(),
         (_, "pieces_take") => format!("{reader}0 0 0 0 0 0 0 0 2 1 0 9"),

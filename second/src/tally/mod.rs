@@ -1,5 +1,6 @@
 //! What a script and its answers showed: how often each verdict, mode, count and answer occurred, and what never did.
 
+mod anonymous;
 mod commands;
 mod expected;
 mod force;
@@ -113,6 +114,7 @@ impl Tally {
                 self.count_write(writer, frame, &said);
                 self.count_pointer(writer, frame, *position, &said);
             }
+            Call::Anonymous { .. } => self.count_anonymous(&call, &said),
             Call::New { pointer: true, .. } => {
                 self.note_when(verdict == "0", "new: the option on, accepted");
                 self.note_when(verdict == "1", "new: the option on, refused");

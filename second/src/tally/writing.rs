@@ -7,7 +7,7 @@ use crate::writer::{Writer, LARGEST_FRAME, MOST_CONTACT_EVENTS};
 
 /// Places in the answer; between the first two stands the number of the changed slots, and behind the third the `:`.
 pub(super) const EVENTS: usize = WRITER_NUMBERS + 1;
-const NEED: usize = WRITER_NUMBERS + 3;
+pub(super) const NEED: usize = WRITER_NUMBERS + 3;
 pub(super) const BYTES: usize = NEED + 2;
 
 impl Tally {

@@ -1,10 +1,12 @@
 //! What several tests use: the sheet's panel, tables from plain numbers, and a frame written with room to spare.
 #![allow(dead_code)]
 
+pub mod pairings;
+
 use second::events::{events, Event, RECORD};
 use second::pointer::Pointer;
 use second::reader::{Mode, Reader};
-use second::records::event_text;
+use second::records::{event, event_text};
 use second::refusal::Refusal;
 use second::table::{Layout, Setup, Slot, SlotNumber, Table, TrackingId, EMPTY};
 use second::writer::{Writer, Written, LARGEST_FRAME};
@@ -68,4 +70,10 @@ pub fn write(writer: &mut Writer, frame: &[i32]) -> Result<(Vec<String>, Written
 
 pub fn bytes(events: &[Event]) -> Vec<u8> {
     events.iter().flat_map(|event| event.to_bytes()).collect()
+}
+
+/// Events that stand between commas.
+pub fn in_bytes(events: &str) -> Vec<u8> {
+    let all = events.split(", ").filter(|words| !words.is_empty());
+    bytes(&all.map(|words| event(&words.split(' ').collect::<Vec<_>>()).unwrap()).collect::<Vec<_>>())
 }

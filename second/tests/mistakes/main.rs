@@ -2,6 +2,7 @@
 //!
 //! `cargo test --test mistakes -- --nocapture` prints after how many calls each is noticed.
 
+mod anonymous;
 mod commands;
 mod force;
 mod frames;
@@ -10,6 +11,7 @@ mod headers;
 mod lines;
 mod loads;
 mod losses;
+mod pairing;
 mod pieces;
 mod pods;
 mod pointer;
@@ -18,6 +20,7 @@ mod recorder;
 mod records;
 mod sent;
 mod skips;
+mod slow_panel;
 mod slow_writer;
 mod states;
 mod wide;
@@ -204,6 +207,11 @@ fn of_pointers() {
     all_are_noticed_in_readers("pointer", |_| pointer::of_readers());
 }
 
+#[test]
+fn of_anonymous_panels() {
+    all_are_noticed("anonymous", On::All, anonymous::all());
+}
+
 /// Without a mistake the ways to answer wrongly answer right; else what is noticed might be theirs.
 #[test]
 fn without_a_mistake_nothing_is_noticed() {
@@ -219,5 +227,6 @@ fn without_a_mistake_nothing_is_noticed() {
     right.extend(force::right());
     right.extend(commands::right());
     right.extend(pointer::right());
+    right.extend(anonymous::right());
     assert_eq!(noticed(&right, On::All, 4), vec![None; right.len()]);
 }

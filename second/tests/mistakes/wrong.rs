@@ -187,7 +187,7 @@ pub fn refusal(answer: &str, call: &Call) -> u8 {
 /// The refusal with its need.
 fn verdict(answer: &str, call: &Call) -> (u8, Option<String>) {
     let need = match call {
-        Call::Write { .. } => answer.split(' ').nth(WRITER_NUMBERS + 3).map(str::to_string),
+        Call::Write { .. } | Call::Anonymous { .. } => answer.split(' ').nth(WRITER_NUMBERS + 3).map(str::to_string),
         Call::Recorder(RecorderCall::Lay { .. }) => answer.split(' ').nth(3).map(str::to_string),
         Call::Force(ForceCall::Write { .. }) => answer.split(' ').nth(1).map(str::to_string),
         Call::Commands(CommandsCall::Write { .. }) => answer.split(' ').nth(POD_NUMBERS + 1).map(str::to_string),
@@ -197,7 +197,7 @@ fn verdict(answer: &str, call: &Call) -> (u8, Option<String>) {
 }
 
 /// The answer where a call is refused, with no need.
-fn refused(call: &Call, number: u8) -> String {
+pub fn refused(call: &Call, number: u8) -> String {
     match call {
         Call::Fresh(layout, _) => format!("{number}{}", " 0".repeat(reader_numbers(*layout))),
         Call::New { .. } => format!("{number}{}", " 0".repeat(WRITER_NUMBERS)),
@@ -213,7 +213,7 @@ fn refused(call: &Call, number: u8) -> String {
         Call::Load { reader, .. } => format!("{number} {}", reader_text(reader)),
         Call::Ask { .. } | Call::PiecesAsk { .. } => format!("refused {number}"),
         Call::Good { .. } => "0".to_string(),
-        Call::Write { writer, size, .. } => {
+        Call::Write { writer, size, .. } | Call::Anonymous { writer, size, .. } => {
             format!("{number} {} 0 0 0 :{}", writer_text(writer), bytes_text(&marks(*size)))
         }
         Call::Start | Call::Pod { .. } => format!("refused {number}"),

@@ -1,5 +1,6 @@
 //! The programs held to docs/PROGRAMS.md: every word on both streams and the status, whole inputs and odd pieces, failed reads and writes.
 
+mod anonymous;
 mod commands;
 mod force;
 mod recording;
@@ -150,6 +151,7 @@ fn a_failed_write_is_said_and_ends_the_program() {
         ("write_force", vec![0; 63]),
         ("show_commands", vec![8; 20]),
         ("write_commands", b"set clock 00 00 00 00 00 00\n".repeat(10)),
+        ("write_anonymous", encoded("SETUP 1 9 9 9 9 9\nX 1\nY 1\nPRESSURE 1\nMT_REPORT\nREPORT\nREPORT\n")),
         ("drive", b"start\nstart\nstart\n".to_vec()),
     ] {
         for room in (0..60).chain([500, 536]) {
@@ -161,7 +163,7 @@ fn a_failed_write_is_said_and_ends_the_program() {
             let failed = format!("{program}: a write to standard output failed: No space left on device\n");
             assert_eq!(words.ends_with(&failed), room < whole.len(), "{words}");
             // What is said to have been sent was sent.
-            let tells = ["write_frames", "record"].contains(&program) && room >= whole.len();
+            let tells = ["write_frames", "record", "write_anonymous"].contains(&program) && room >= whole.len();
             assert_eq!(words.contains("was sent") || words.contains("was recorded"), tells);
         }
     }
@@ -182,6 +184,7 @@ fn long_inputs_are_answered_as_in_one_piece() {
         encoded(&("SETUP 3 9 9 9 9 9\n".to_string() + &"SLOT 1\nX 3\nMAJOR 4\nSLOT 2\nY 2\nREPORT\n".repeat(5_000)));
     let frame =
         "FRAME 1 1 1 1 0 0  2 2 2 2 0 0  0 0 0 0 0 0  3 0 0 0 0 0  1 9 9 9 0 0\nFRAME 1 1 2 1 0 0  2 2 2 2 0 0  0 0 0 0 0 0  0 0 0 0 0 0  1 9 9 9 0 0\n";
+    let packets = "X 1\nY 2\nPRESSURE 3\nMT_REPORT\nX 2\nY 2\nPRESSURE 3\nMT_REPORT\nREPORT\nX 2\nREPORT\n";
     let inputs = [
         ("show_table", records.clone()),
         ("record", records.clone()),
@@ -192,6 +195,7 @@ fn long_inputs_are_answered_as_in_one_piece() {
         ("write_force", [1, 2, 3, 4, 5, 6, 7, 8, 9].repeat(8_000)),
         ("show_commands", [0x1B, 0x99, 1, 2, 3, 4, 0x5A, 8, 0x80, 1, 9, 1, 2, 3, 4].repeat(6_000)),
         ("write_commands", b"reset\nabsolute 640 400\nbuttons 5\nno\n".repeat(3_000)),
+        ("write_anonymous", encoded(&("SETUP 3 9 9 9 9 9\n".to_string() + &packets.repeat(3_000)))),
         ("show_pod", [0xF7, 1, 2, 3, 4, 5, 0xFD, 0x80, 0, 0x11].repeat(20_000)),
         ("drive", b"crane_fresh 1 2 3 4\nfresh 1 2 3 4 5 6\nstart\nno\n".repeat(3_000)),
     ];
@@ -213,7 +217,8 @@ fn noise_is_answered_and_tries_every_word_of_the_page() {
             let whole = answers(program, &bytes, usize::MAX, false);
             assert!(answers(program, &bytes, 11, false) == whole, "{program} {index}");
             seen += &whole.2;
-            if !["write_frames", WITH_POINTER, "record", "write_force", "write_commands"].contains(&program) {
+            let is_bytes = ["write_frames", WITH_POINTER, "record", "write_force", "write_commands", "write_anonymous"];
+            if !is_bytes.contains(&program) {
                 seen += &String::from_utf8(whole.1).unwrap();
             }
         }
@@ -233,6 +238,11 @@ fn noise_is_answered_and_tries_every_word_of_the_page() {
         "the last record is cut: 7 of 8",
         "frame 1 refused 3\n",
         "frame 2 refused 4\n",
+        "write_anonymous: the setup is cut: 23 of 24",
+        "frame 1 refused 6\n",
+        "frame 1 refused 9\n",
+        "frame 1 refused 10\n",
+        " refused: over 4096 records\n",
         "show_table: most records were skipped",
         "crane_table: most records have an unknown type",
         "record: the setup is cut: 23 of 24",
@@ -266,7 +276,7 @@ fn noise_is_answered_and_tries_every_word_of_the_page() {
     ] {
         assert!(seen.contains(part), "{part}");
     }
-    for program in ["show_table", "write_frames", "crane_table", "record", "replay"] {
+    for program in ["show_table", "write_frames", "crane_table", "record", "replay", "write_anonymous"] {
         for (i, number) in ["n"].iter().chain(&LARGEST).enumerate() {
             let is_judged = program != "crane_table" || i < 4;
             assert_eq!(seen.contains(&format!("{program}: {number} is ")), is_judged, "{program}: {number}");

@@ -1,0 +1,2 @@
+-- What the inner promises cite.
+pub mod Held
