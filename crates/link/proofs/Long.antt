@@ -2,14 +2,14 @@
 use mathlib.Core.Path.{_≡_, refl, sym, ap, ap₂, subst, _∙_}
 use mathlib.Core.Bool.{Bool, true, false, cond, _||_}
 use mathlib.Core.Logic.{_≢_}
-use mathlib.Core.List.{List, [], _∷_, _++_}
-use Prim.Native.Nat.{ℕ, _+_, _*_, _/_, _%_, _≤_, _<_}
+use mathlib.Core.List.{List, [], _∷_, _++_, map}
+use Prim.Native.Nat.{ℕ, zero, suc, _+_, _*_, _/_, _%_, _≤_, _<_}
 use native.Mathlib.Omega.{arith}
 use lib.Dec.{T, eqb}
 use lib.ListN.{length, getD, take, drop, set, drop-of-length-le}
 use lib.Seq.{take-all}
-use Rattle.model.specs.Panel.{base, setupGood}
-use Rattle.model.specs.Table.{idsDiffer}
+use Rattle.model.specs.Panel.{base, craneRecords, setupGood}
+use Rattle.model.specs.Table.{ids, liveDiffer, idsDiffer}
 use Rattle.model.specs.Events.{Event}
 use Rattle.model.specs.Records.{eventsOf, eventAt}
 use Rattle.model.specs.Loss.{isDropped}
@@ -26,7 +26,8 @@ use Rattle.model.specs.PointerNarrow.{isButton, isPlace, pointedCounts}
 use Rattle.model.proofs.Bools.{holds, is-true}
 use Rattle.model.proofs.Answers.{reader-made}
 use Rattle.model.proofs.Instances.{base-good}
-use Rattle.model.proofs.Long.{long-run, late-load, calls-bytes, ids-apart}
+use Rattle.model.proofs.Long.{first-apart, long-run, late-load, calls-bytes, ids-apart}
+use Rattle.model.proofs.Pieces.{line-facts}
 use Rattle.model.proofs.PointerShift.{calls-whole, calls-setup}
 use Rattle.model.proofs.PointerCalls.{pointer-made}
 use Rattle.model.proofs.Calls.{reader-state}
@@ -36,6 +37,11 @@ use Rattle.common.specs.declared.Mode.the-variants.{Stale}
 use Rattle.common.specs.Seen.{countsFrom, modeOf}
 use Rattle.common.proofs.Signs.{and-false}
 use Rattle.panel.specs.declared.Setup.{Setup}
+use Rattle.panel.specs.declared.Slot.{Slot}
+use Rattle.crane_panel.specs.Seen.{tableOf as craneTable}
+use Rattle.crane_reader.specs.declared.FreshAnswer.{FreshAnswer as CraneFresh}
+use Rattle.crane_reader.specs.declared.RunAnswer.{RunAnswer as CraneAnswer}
+use Rattle.pieces.specs.Seen.{seen}
 use Rattle.panel.specs.Seen.{tableOf, setupOf}
 use Rattle.writer.specs.declared.WriterState.{WriterState}
 use Rattle.writer.specs.declared.FreshWriter.{FreshWriter}
@@ -64,7 +70,9 @@ use Rattle.link.proofs.Steady.{calls-setup as reader-setup}
 use Rattle.link.proofs.Loss.{dropped-loses, unknown-until-load}
 use Rattle.link.proofs.Cranes.{crane-follows}
 use Rattle.link.proofs.PointerTold.{shift-good}
-use Rattle.link.proofs.PiecesCalls.{fresh-pieces}
+use Rattle.link.specs.Cranes.{CraneMade, CraneRan, craneSetup, four}
+use Rattle.link.proofs.Pieces.{line-good}
+use Rattle.link.proofs.PiecesCalls.{line-made-good, fresh-pieces}
 
 -- ---- the counts, in fewer words
 
@@ -121,6 +129,18 @@ module _ (s : WriterState) (cs : List WriteCall) (good : GoodWriter s) (a : AllW
   live-apart =
       ap (λ (x : PointerState). idsDiffer (x .base .writer .table)) (writer-is s cs a)
       ∙ is-true _ (ids-apart base base-good tt (W.seen s) (allHanded cs) (holds _ good))
+
+-- ---- ids that are shown
+
+-- A well-formed reader shows no two live contacts with one id.
+pub good-apart : (t : ReaderState) → GoodReader t → idsDiffer (tableOf (t .shown)) ≡ true
+good-apart t good = is-true _ (reader-state base (R.seen t) (holds _ good) .reader .differs)
+
+-- A crane's slots have the ids of the product's.
+fours-ids : (k : ℕ) (t : List Slot) → ids (craneTable (map four (take k t))) ≡ take k (ids (tableOf t))
+fours-ids zero t = refl
+fours-ids (suc k) [] = refl
+fours-ids (suc k) (s ∷ t) = ap (λ l. s .id .0 ∷ l) (fours-ids k t)
 
 -- ---- from the fresh states, any calls
 
@@ -281,15 +301,27 @@ module _ (u : Setup) (on : Bool) (made : FreshWriter) (cs : List WriteCall) (m :
   shown-apart : (r : FreshAnswer) (xs : List HostCall) → ReaderMade u r → AllAllowed (r .state) xs
       → idsDiffer (tableOf (stateAfterAll (r .state) xs .shown)) ≡ true
   unfolding reader-accepts
-  shown-apart r xs e h =
-      let good = calls-good (r .state) xs h (reader-made-good u r e (reader-accepts r e)) in
-      is-true _ (reader-state base _ (holds _ good) .reader .differs)
+  shown-apart r xs e h = good-apart (stateAfterAll (r .state) xs) (calls-good (r .state) xs h (reader-made-good u r e (reader-accepts r e)))
+
+  pieces-apart : (r : LineFresh) (ps : List Piece) → LineMade u r → AllTook (r .state) ps → idsDiffer (tableOf (lineAfter (r .state) ps .reader .shown)) ≡ true
+  unfolding line-accepts
+  pieces-apart r ps e took =
+      let good = line-good (r .state) ps took (line-made-good u r e (line-accepts r e)) in
+      good-apart (lineAfter (r .state) ps .reader) (is-true _ (line-facts base (seen (lineAfter (r .state) ps)) (holds _ good) .reader))
+
+  crane-apart : u .n ≤ craneRecords → (r : CraneFresh) (q : CraneAnswer) → CraneMade (craneSetup u) r → CraneRan (r .state) (bytesFrom cs) q
+      → idsDiffer (craneTable (q .state .shown)) ≡ true
+  unfolding begins-good
+  crane-apart few r q e h =
+      ap (λ l. idsDiffer (craneTable l)) (crane-follows u on made cs m v a few r e q h .shown)
+      ∙ ap liveDiffer (fours-ids craneRecords (shift .table))
+      ∙ first-apart craneRecords (ids (tableOf (shift .table))) (live-apart (made .state) cs begins-good a)
 
   -- ---- all of it, at every moment
 
   -- The calls so far are any list, so this holds after each of them.
   pub every-moment : AtMoment u shift (bytesFrom cs)
-  unfolding shift-follows shift-pieces late-joins replays shown-apart begins-good
+  unfolding shift-follows shift-pieces late-joins replays shown-apart pieces-apart crane-apart begins-good
   every-moment =
       record {
         reader = shift-follows;
@@ -299,4 +331,6 @@ module _ (u : Setup) (on : Bool) (made : FreshWriter) (cs : List WriteCall) (m :
         crane = λ few r q e h. crane-follows u on made cs m v a few r e q h;
         apart = live-apart (made .state) cs begins-good a;
         shown = shown-apart;
+        shownInPieces = pieces-apart;
+        shownByCrane = crane-apart;
       }

@@ -31,6 +31,7 @@ use Rattle.recorder.specs.declared.BlockRead.{BlockRead}
 use Rattle.recorder.specs.Host.{RecordingOf, Answered, heard, AllEvents}
 use Rattle.crane_reader.specs.declared.FreshAnswer.{FreshAnswer as CraneFresh}
 use Rattle.crane_reader.specs.declared.RunAnswer.{RunAnswer as CraneAnswer}
+use Rattle.crane_panel.specs.Seen.{tableOf as craneTable}
 use Rattle.link.specs.Promises.{ReaderMade, Ran, Loaded, Asked, GoodReader, pupilOf}
 use Rattle.link.specs.Host.{HostCall, AllAllowed, stateAfterAll}
 use Rattle.link.specs.Shift.{WriteCall, AllWrote, writerAfter, bytesFrom}
@@ -82,8 +83,8 @@ pub record Replays (u : Setup) (w : WriterState) (bs : List ℕ) (n : ℕ) (s : 
 
 -- K14 at one moment of a shift, where u is the setup, w the writer's state and bs all bytes that it wrote so far: a reader fresh from u that is given bs
 -- follows, also through the line's pieces; a stale one of that setup, whatever it shows, joins by loading the writer's table and current slot; a recording of
--- bs replays; a crane's reader follows where the panel is no larger than a crane's; and no two live contacts share an id, in the writer's table and in any
--- that a reader of u shows, whatever it is given.
+-- bs replays; a crane's reader follows where the panel is no larger than a crane's; and no two live contacts share an id, in the writer's table, in any that a
+-- reader of u shows, whatever it is given, at once or in pieces, and in a crane's.
 pub record AtMoment (u : Setup) (w : WriterState) (bs : List ℕ) : Type 0 where
   pub reader : (r : FreshAnswer) (q : RunAnswer) → ReaderMade u r → Ran (r .state) bs q → Follows w bs q
   pub line : (r : LineFresh) (ps : List Piece) → LineMade u r → AllTook (r .state) ps → lineBytes ps ≡ bs → FollowsLine w (r .state) ps
@@ -92,3 +93,6 @@ pub record AtMoment (u : Setup) (w : WriterState) (bs : List ℕ) : Type 0 where
   pub crane : u .n ≤ craneRecords → (r : CraneFresh) (q : CraneAnswer) → CraneMade (craneSetup u) r → CraneRan (r .state) bs q → CraneFollows w bs q
   pub apart : idsDiffer (tableOf (w .table)) ≡ true
   pub shown : (r : FreshAnswer) (xs : List HostCall) → ReaderMade u r → AllAllowed (r .state) xs → idsDiffer (tableOf (stateAfterAll (r .state) xs .shown)) ≡ true
+  pub shownInPieces : (r : LineFresh) (ps : List Piece) → LineMade u r → AllTook (r .state) ps → idsDiffer (tableOf (lineAfter (r .state) ps .reader .shown)) ≡ true
+  pub shownByCrane : u .n ≤ craneRecords → (r : CraneFresh) (q : CraneAnswer) → CraneMade (craneSetup u) r → CraneRan (r .state) bs q
+      → idsDiffer (craneTable (q .state .shown)) ≡ true

@@ -2,7 +2,7 @@
 use mathlib.Core.Path.{_≡_, refl, sym, ap, ap₂, subst, _∙_}
 use mathlib.Core.Bool.{Bool, true, false}
 use mathlib.Core.List.{List, [], _∷_, _++_, map}
-use Prim.Native.Nat.{ℕ, zero, suc, _-_, _≤_}
+use Prim.Native.Nat.{ℕ, zero, suc, _-_, _<_, _≤_}
 use native.Mathlib.Omega.{arith}
 use lib.Dec.{T, leb, leb→le}
 use lib.ListN.{length, take, replicate, length-map}
@@ -10,13 +10,13 @@ use lib.Seq.{length-take-le, take-append-seam}
 use Rattle.model.specs.Numbers.{between}
 use Rattle.model.specs.Panel.{Panel, Setup, base, setupGood, panelOf}
 use Rattle.model.specs.Table.{Slot, Table, idOf, live, unusedSlot, goodTable}
-use Rattle.model.specs.Pairing.{Point, alone, pairing, Best, bestPairing, atLive, leftOver, placed, times, liveSlots, unusedSlots}
+use Rattle.model.specs.Pairing.{Point, alone, Best, bestPairing, atLive, leftOver, placed, times, liveSlots, unusedSlots}
 use Rattle.model.specs.Packets.{Contact, contactsGood}
 use Rattle.model.specs.Anonymous.{slotPoint, contactPoint, liveIn, oldPoints, contactNumbers, fewEnough, Placed}
 use Rattle.model.proofs.Bools.{both-left, both-right}
 use Rattle.model.proofs.Tables.{good-length, good-records}
 use Rattle.model.proofs.Images.{unused-past}
-use Rattle.model.proofs.PairingPlaced.{live-length, left-fits, pairing-length, placed-live, placed-unused, placed-length, placed-once, placed-past}
+use Rattle.model.proofs.PairingPlaced.{live-length, left-fits, pairing-length, placed-live, placed-unused, placed-length, best-placed-once, placed-past}
 use Rattle.model.proofs.AnonymousBest.{pairing-best}
 
 -- ---- records past the slots
@@ -103,15 +103,36 @@ module _ (u : Setup) (t : Table) (cs : List Contact) (setup : T (setupGood base 
   counted : length news ≡ length cs
   counted = length-map cs contactPoint
 
-  -- Those left over find room below the panel's slots.
-  room : length (leftOver (length cs) best) ≤ unusedSlots (liveIn front)
-  unfolding is-best olds-are five counted there
-  room =
+  front-best : Best news (atLive (liveIn front) (map slotPoint front)) best
+  unfolding is-best olds-are
+  front-best = subst (λ os. Best news os best) olds-are is-best
+
+  slotted : length (map slotPoint front) ≡ length (liveIn front)
+  slotted = length-map front slotPoint ∙ sym (length-map front (λ s. live (idOf s)))
+
+  few-five : length news ≤ alone
+  unfolding five counted
+  few-five = omega (arith, counted, five)
+
+  few-slots : length news ≤ length (liveIn front)
+  unfolding counted there
+  few-slots =
       let slots : length cs ≤ n = leb→le (length cs) n (both-right (leb (length cs) alone) _ few) in
       let lives : length (liveIn front) ≡ n = length-map front (λ s. live (idOf s)) ∙ length-take-le n t there in
+      omega (arith, counted, slots, lives)
+
+  -- Those left over find room below the panel's slots.
+  room : length (leftOver (length cs) best) ≤ unusedSlots (liveIn front)
+  unfolding front-best slotted few-five few-slots counted
+  room =
       subst (λ k. length (leftOver k best) ≤ unusedSlots (liveIn front)) counted
-      (left-fits (liveIn front) (map slotPoint front) news best (length-map front slotPoint ∙ sym (length-map front (λ s. live (idOf s))))
-      (omega (arith, counted, five)) (omega (arith, counted, slots, lives)) (subst (λ os. Best news os best) olds-are is-best))
+      (left-fits (liveIn front) (map slotPoint front) news best slotted few-five few-slots front-best)
+
+  each-once : (c : ℕ) → c < length cs → times c (placed (liveIn front) best (length cs)) ≡ 1
+  unfolding front-best slotted few-five few-slots counted
+  each-once =
+      subst (λ k. (c : ℕ) → c < k → times c (placed (liveIn front) best k) ≡ 1) counted
+      (best-placed-once (liveIn front) (map slotPoint front) news best slotted few-five few-slots front-best)
 
   numbers-are : contactNumbers t cs ≡ placed (liveIn front) best (length cs) ++ replicate m alone
   unfolding live-is room
@@ -125,18 +146,13 @@ module _ (u : Setup) (t : Table) (cs : List Contact) (setup : T (setupGood base 
       ap₂ take (sym size) numbers-are ∙ take-append-seam (placed (liveIn front) best (length cs)) (replicate m alone)
 
   pub contacts-placed : Placed n t cs
-  unfolding is-best paired live-is room front-numbers five counted olds-are
+  unfolding is-best paired live-is room front-numbers each-once
   contacts-placed =
       let all : length (leftOver (length cs) best) ≤ unusedSlots (liveIn t) =
       subst (λ bs. length (leftOver (length cs) best) ≤ unusedSlots bs) (sym live-is) (omega (arith, room, more-room (liveIn front) m)) in
-      let fronts : length best ≡ liveSlots (liveIn front) =
-      pairing-length (length news) [] (oldPoints t) best (is-best .reached)
-      ∙ ap length olds-are
-      ∙ live-length (liveIn front) (map slotPoint front) (length-map front slotPoint ∙ sym (length-map front (λ s. live (idOf s)))) in
       record {
         best = is-best;
         kept = placed-live (liveIn t) best (length cs) paired;
         begun = placed-unused (liveIn t) best (length cs) all;
-        once = λ c h. ap (times c) front-numbers
-            ∙ placed-once (liveIn front) (oldPoints t) best (length cs) c five fronts (subst (λ k. pairing k [] (oldPoints t) best ≡ true) counted (is-best .reached)) room h;
+        once = λ c h. ap (times c) front-numbers ∙ each-once c h;
       }

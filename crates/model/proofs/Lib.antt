@@ -120,6 +120,7 @@
 --   AnonymousBest: the contacts of a good table and a good frame are within what PairingBest asks.
 --   AnonymousPlaces: who is where.
 --   AnonymousSlots: what becomes of each slot.
+--   AnonymousSheet: cases of it, computed.
 pub mod Bench
 pub mod AtReport
 pub mod Cranes
@@ -225,4 +226,5 @@ pub mod AnonymousCalls
 pub mod AnonymousSlots
 pub mod AnonymousBest
 pub mod AnonymousPlaces
+pub mod AnonymousSheet
 pub mod Instances

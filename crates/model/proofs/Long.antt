@@ -1,14 +1,17 @@
 -- A long shift and a late pupil (K14): any calls of a writer, refused ones among them, read in order by its own reader, and by one that loads the writer's table between two calls. The step is a frame that reads back (demand 2), as PointerShift carries it over calls. The calls so far are a list too, so what is said holds after each of them. Assumes nothing.
-use mathlib.Core.Path.{_≡_, refl, sym, ap, subst, _∙_}
+use mathlib.Core.Path.{_≡_, refl, sym, ap, ap₂, subst, _∙_}
+use mathlib.Core.Bool.{Bool, true, false, not, _&&_, _||_}
 use mathlib.Core.List.{List, [], _∷_}
-use Prim.Native.Nat.{_≤_}
+use Prim.Native.Nat.{ℕ, zero, suc, _≤_}
 use native.Mathlib.Omega.{arith}
 use lib.Dec.{T}
-use lib.ListN.{length, drop, length-map, drop-of-length-le}
+use lib.IntN.{ℤ}
+use lib.ListN.{length, take, drop, length-map, drop-of-length-le}
 use lib.Seq.{take-all}
 use Rattle.model.specs.Panel.{Field, Layout, Panel, panelOf, goodLayout, fieldCodes}
 use Rattle.model.specs.Events.{Event}
-use Rattle.model.specs.Table.{idsDiffer}
+use Rattle.model.specs.Numbers.{eqZ}
+use Rattle.model.specs.Table.{live, unheld, liveDiffer, idsDiffer}
 use Rattle.model.specs.Records.{eventsOf}
 use Rattle.model.specs.Reader.{following, settledAt}
 use Rattle.model.specs.States.{ReaderState, readerGood}
@@ -21,7 +24,7 @@ use Rattle.model.specs.Pointing.{PointerState, pointerGood}
 use Rattle.model.specs.PointerShift.{pointerWrote, pointerWroteAll, pointerSent, pointerWritten, pointerWrittenAll}
 use Rattle.model.specs.PointerNarrow.{SkipsAlone, pointedCounts}
 use Rattle.model.specs.Recorder.{AllBytes}
-use Rattle.model.proofs.Bools.{is-true}
+use Rattle.model.proofs.Bools.{is-true, and-left, and-right}
 use Rattle.model.proofs.Answers.{load-taken}
 use Rattle.model.proofs.Blocks.{bytes-append}
 use Rattle.model.proofs.Calls.{writer-state}
@@ -48,6 +51,25 @@ own-counts p w n es h =
     sym (ap (λ q. followed q es) (whole-panel p))
     ∙ counts-are k (p .records) p w (subst (λ q. T (unpointed (fieldCodes (q .fields)))) (sym (whole-panel p)) n) es h
     ∙ ap (λ c. pointedCounts c es) none
+
+-- ---- ids of the first records
+
+held-first : (k : ℕ) (v : ℤ) (l : List ℤ) → unheld v l ≡ true → unheld v (take k l) ≡ true
+held-first zero v l h = refl
+held-first (suc k) v [] h = refl
+held-first (suc k) v (x ∷ l) h = ap₂ _&&_ (and-left (not (eqZ v x)) (unheld v l) h) (held-first k v l (and-right (not (eqZ v x)) (unheld v l) h))
+
+-- If the live ids of a list differ, so do those of its first numbers.
+pub first-apart : (k : ℕ) (l : List ℤ) → liveDiffer l ≡ true → liveDiffer (take k l) ≡ true
+first-apart zero l h = refl
+first-apart (suc k) [] h = refl
+first-apart (suc k) (x ∷ l) h =
+    ap₂ _&&_ (by (not (live x)) (held-first k x l) (and-left (not (live x) || unheld x l) (liveDiffer l) h))
+    (first-apart k l (and-right (not (live x) || unheld x l) (liveDiffer l) h))
+  where
+    by : (d : Bool) → (unheld x l ≡ true → unheld x (take k l) ≡ true) → (d || unheld x l) ≡ true → (d || unheld x (take k l)) ≡ true
+    by true f e = refl
+    by false f e = f e
 
 module _ (l : Layout) (g : T (goodLayout l)) (able : T (pointable l)) where
   -- ---- the long shift

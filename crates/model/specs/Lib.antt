@@ -34,4 +34,5 @@ pub mod PointerNarrow
 pub mod Pairing
 pub mod Packets
 pub mod Anonymous
+pub mod AnonymousSheet
 pub mod Unique
