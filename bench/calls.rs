@@ -3,7 +3,10 @@
 use std::fmt::Debug;
 
 /// The one answer that all versions give to a call; each comes with its version's name.
-pub fn agreed<T: PartialEq + Debug, const N: usize>(call: &impl Debug, answers: [(&str, T); N]) -> Result<T, String> {
+pub fn agreed<'a, T: PartialEq + Debug>(
+    call: &impl Debug,
+    answers: impl IntoIterator<Item = (&'a str, T)>,
+) -> Result<T, String> {
     let mut answers = answers.into_iter();
     let (first, answer) = answers.next().ok_or("there is no version")?;
     match answers.find(|(_, other)| *other != answer) {

@@ -83,7 +83,7 @@ const CHANGED: [(u64, fn(&mut Call)); 34] = [
     (2, |c| c.state.table[RECORDS - 1].minor = 1),
     (2, |c| c.state.current = 4),
     (2, |c| c.state.counter = 65536),
-    (2, |c| c.state.display.on = 2),
+    (2, |c| c.state.on = 2),
     (2, |c| c.state.ranks[3] = 1),
     (6, |c| c.bytes.push(0)),
     (6, |c| c.bytes.truncate(129)),

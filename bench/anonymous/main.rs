@@ -28,15 +28,16 @@ use version::Answer;
 type Numbers = [u8; RECORDS];
 
 extern "C" {
-    fn rattle_anonymous(
-        state: &mut State,
+    fn chandrulek_write_anonymous(
+        state: *mut u8,
+        size: usize,
         bytes: *const u8,
         len: usize,
         buf: *mut u8,
-        size: usize,
+        room: usize,
         at: usize,
         answer: &mut Answer,
-    ) -> u64;
+    ) -> u32;
     fn rattle_pair(
         ox: *const u32,
         oy: *const u32,
@@ -50,7 +51,9 @@ extern "C" {
 
 // SAFETY of both calls: the slices are whole, and the library reads and writes in them alone. The numbers of a pairing are those of contacts that were judged.
 fn rattle_writes(state: &mut State, bytes: &[u8], buf: &mut [u8], at: usize, answer: &mut Answer) -> u64 {
-    unsafe { rattle_anonymous(state, bytes.as_ptr(), bytes.len(), buf.as_mut_ptr(), buf.len(), at, answer) }
+    let (lent, size) = version::lent(state);
+    let (from, to) = (bytes.as_ptr(), buf.as_mut_ptr());
+    unsafe { chandrulek_write_anonymous(lent, size, from, bytes.len(), to, buf.len(), at, answer) as u64 }
 }
 
 fn rattle_pairs(pair: &Pair, out: &mut Numbers) {
@@ -79,7 +82,7 @@ static VERSIONS: [Version; 2] = [
 ];
 
 /// What stands in the answer's place before a call, so that a number that is not told shows.
-const UNTOLD: Answer = Answer { count: 77, changed: 77, need: 77 };
+const UNTOLD: Answer = Answer { count: 77, need: 77, changed: 77 };
 /// The most bytes that a frame can need, with the four events that K6's display can be told.
 const ROOM: usize = 8 * (MOST_EVENTS + 4);
 

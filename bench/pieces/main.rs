@@ -12,19 +12,41 @@ mod state;
 
 use state::{Counts, State};
 use std::hint::black_box;
+use std::mem::size_of;
+
+/// A line's state: the reader's, of another kind, and the bytes that are held: seven places and a zero.
+#[repr(C)]
+#[derive(Clone, Copy, PartialEq, Debug)]
+struct Line {
+    reader: State,
+    held: [u8; 8],
+}
+
+const LINE_KIND: u8 = 3;
 
 extern "C" {
-    fn rattle_run(state: &mut State, bytes: *const u8, len: usize, counts: &mut Counts) -> u64;
-    fn rattle_take(state: &mut State, bytes: *const u8, len: usize, counts: &mut Counts) -> u64;
+    fn chandrulek_run(state: *mut u8, size: usize, bytes: *const u8, len: usize, counts: &mut Counts) -> u32;
+    fn chandrulek_take(state: *mut u8, size: usize, bytes: *const u8, len: usize, counts: &mut Counts) -> u32;
 }
 
 const LOADS: [&str; 5] = ["one", "all", "none", "ids", "byte"];
 
-/// A version's call. SAFETY: the slice is whole, and neither call reads past it.
-fn call(version: &str, state: &mut State, bytes: &[u8], counts: &mut Counts) -> u64 {
+fn start(version: &str, n: u32) -> Line {
+    let mut reader = loads::start(n);
+    if version == "take" {
+        reader.kind = LINE_KIND;
+    }
+    Line { reader, held: [0; 8] }
+}
+
+/// A version's call. SAFETY: the slices are whole, and neither call reads past them.
+fn call(version: &str, line: &mut Line, bytes: &[u8], counts: &mut Counts) -> u32 {
+    let (from, len) = (bytes.as_ptr(), bytes.len());
     match version {
-        "run" => unsafe { rattle_run(state, bytes.as_ptr(), bytes.len(), counts) },
-        _ => unsafe { rattle_take(state, bytes.as_ptr(), bytes.len(), counts) },
+        "run" => unsafe {
+            chandrulek_run((&mut line.reader as *mut State).cast(), size_of::<State>(), from, len, counts)
+        },
+        _ => unsafe { chandrulek_take((line as *mut Line).cast(), size_of::<Line>(), from, len, counts) },
     }
 }
 
@@ -40,10 +62,12 @@ fn bytes_of(version: &str, load: &str, n: u32) -> Vec<u8> {
 fn pass(version: &str, load: &str, n: u32) -> Box<dyn FnMut()> {
     let bytes = bytes_of(version, load, n);
     let version = version.to_string();
-    let mut held = measure::Held((loads::start(n), Counts::default()));
+    let mut held = measure::Held((start(&version, n), Counts::default()));
     Box::new(move || {
-        let (state, counts) = &mut held.0;
-        let verdict = call(&version, black_box(state), black_box(&bytes), counts);
+        let (line, counts) = &mut held.0;
+        // What a piece of one byte leaves is let go again, so that the next pass finds nothing held.
+        (line.held, line.reader.zero) = ([0; 8], 0);
+        let verdict = call(&version, black_box(line), black_box(&bytes), counts);
         black_box((verdict, counts));
     })
 }
@@ -54,9 +78,11 @@ fn compare() -> Result<String, String> {
     for load in LOADS {
         for n in measure::SIZES {
             let [run, take] = ["run", "take"].map(|version| {
-                let (mut state, mut counts) = (loads::start(n), Counts::default());
-                let verdict = call(version, &mut state, &bytes_of(version, load, n), &mut counts);
-                (verdict, state, counts)
+                let (mut line, mut counts) = (start(version, n), Counts::default());
+                let verdict = call(version, &mut line, &bytes_of(version, load, n), &mut counts);
+                // Of a line the kind is another, and so is what it holds of a byte.
+                (line.reader.kind, line.reader.zero) = (0, 0);
+                (verdict, line.reader, counts)
             });
             if run != take {
                 return Err(format!("run and take differ on {load} with {n} slots"));

@@ -4,7 +4,7 @@ use crate::calls::{agreed, Noise, Verdicts};
 use crate::loads::{record, records, start, LOADS};
 use crate::measure::SIZES;
 use crate::panel::{Setup, Slot, PER_SLOT, RECORDS, ZERO};
-use crate::state::{Counts, State, Told, DROPPED, EMPTY, STALE};
+use crate::state::{Counts, State, Told, DROPPED, STALE, UNKNOWN};
 use crate::version::Version;
 use crate::VERSIONS;
 
@@ -30,7 +30,7 @@ struct Answer {
 // What stands in an answer's place before a call that tells it, so that a number that is not told shows; and zeros.
 const UNTOLD: (Counts, Told) =
     (Counts::all(77), Told { kind: 77, slot: Slot { id: 77, x: 77, y: 77, pressure: 77, major: 77, minor: 77 } });
-const ZEROS: (Counts, Told) = (Counts::all(0), Told { kind: EMPTY, slot: ZERO });
+const ZEROS: (Counts, Told) = (Counts::all(0), Told { kind: UNKNOWN, slot: ZERO });
 
 fn answer_of(version: &Version, state: &State, call: &Call) -> Answer {
     let (mut state, mut counts, mut told) = (*state, ZEROS.0, ZEROS.1);
@@ -57,10 +57,10 @@ fn answer_of(version: &Version, state: &State, call: &Call) -> Answer {
 
 /// What every version answers. What is refused comes out as it went in, with zeros.
 fn answer(state: &State, call: &Call, verdicts: &mut Verdicts) -> Result<Answer, String> {
-    let answers = VERSIONS.each_ref().map(|version| (version.name, answer_of(version, state, call)));
+    let answers = VERSIONS.iter().map(|version| (version.name, answer_of(version, state, call)));
     let answer = agreed(&(call, state), answers)?;
     let kept = Answer { verdict: answer.verdict, state: *state, counts: ZEROS.0, told: ZEROS.1 };
-    if answer.verdict > 1 && answer != kept {
+    if answer.verdict != 0 && answer != kept {
         return Err(format!("{call:?} is refused by {}, and something moved: {state:?}", answer.verdict));
     }
     verdicts.note(answer.verdict)?;

@@ -9,7 +9,7 @@ struct Ran {
     outcome: Result<Counts, u64>,
 }
 
-fn lose(state: &mut State, mode: u32) {
+fn lose(state: &mut State, mode: u8) {
     state.pending = state.shown;
     state.mode = mode;
 }

@@ -3,8 +3,8 @@
 use crate::panel::{Setup, Slot, Table, RECORDS, UNUSED};
 use crate::state::State;
 
-/// What comes before each report: x and y of one slot, another one each time; every number but the id of every slot; no report comes at all; another contact in one slot.
-pub const LOADS: [&str; 4] = ["one", "all", "none", "ids"];
+/// What comes before each report: x and y of one slot, another one each time; every number but the id of every slot; no report comes at all; another contact in one slot. The last ones are the same with a call for each frame.
+pub const LOADS: [&str; 6] = ["one", "all", "none", "ids", "one_each", "all_each"];
 
 const FRAMES: u32 = 100;
 
@@ -21,8 +21,16 @@ pub fn record(kind: u16, code: u16, value: u32) -> [u8; 8] {
     (kind as u64 | (code as u64) << 16 | (value as u64) << 32).to_le_bytes()
 }
 
+/// The records of each call.
+pub fn calls(load: &str, n: u32) -> Vec<Vec<u8>> {
+    match load.strip_suffix("_each") {
+        Some(load) => (0..FRAMES).map(|f| frame(load, n, f)).collect(),
+        None => vec![(0..FRAMES).flat_map(|f| frame(load, n, f)).collect()],
+    }
+}
+
 pub fn records(load: &str, n: u32) -> Vec<u8> {
-    (0..FRAMES).flat_map(|f| frame(load, n, f)).collect()
+    calls(load, n).concat()
 }
 
 fn frame(load: &str, n: u32, f: u32) -> Vec<u8> {

@@ -13,16 +13,15 @@ mod panel;
 mod state;
 mod version;
 
-use state::{Counts, State, Told};
+use state::{Counts, Told};
 use std::hint::black_box;
 use version::{in_rust, Version};
 
 extern "C" {
-    fn rattle_fresh(state: &mut State, n: u32, x: u32, y: u32, pressure: u32, major: u32, minor: u32) -> u64;
-    fn rattle_run(state: &mut State, bytes: *const u8, len: usize, counts: &mut Counts) -> u64;
-    fn rattle_read_one(state: &mut State, kind: u16, code: u16, value: u32, counts: &mut Counts) -> u64;
-    fn rattle_load(state: &mut State, image: *const i32, numbers: usize, current: usize) -> u64;
-    fn rattle_ask(state: &State, slot: usize, told: &mut Told) -> u64;
+    fn chandrulek_reader_fresh(state: *mut u8, size: usize, setup: &[u32; 6]) -> u32;
+    fn chandrulek_run(state: *mut u8, size: usize, records: *const u8, len: usize, counts: &mut Counts) -> u32;
+    fn chandrulek_load(state: *mut u8, size: usize, image: *const i32, numbers: usize, current: usize) -> u32;
+    fn chandrulek_ask(state: *const u8, size: usize, slot: usize, told: &mut Told) -> u32;
 }
 
 /// `late` is `inplace`, but that it tests the ids only after one came.
@@ -32,23 +31,24 @@ static VERSIONS: [Version; 4] = [
     in_rust::<inplace::InPlace<true>>("late"),
     Version {
         name: "rattle",
-        fresh: rattle_fresh,
-        run: rattle_run,
-        read_one: rattle_read_one,
-        load: rattle_load,
-        ask: rattle_ask,
+        fresh: chandrulek_reader_fresh,
+        run: chandrulek_run,
+        load: chandrulek_load,
+        ask: chandrulek_ask,
     },
 ];
 
-/// One call for all records of a load.
+/// One call for all records of a load; of a load whose name ends in `_each`, one for each frame.
 fn pass(version: &str, load: &str, n: u32) -> Box<dyn FnMut()> {
     let version = VERSIONS.iter().find(|v| v.name == version).expect("a version's name");
-    let bytes = loads::records(load, n);
+    let calls = loads::calls(load, n);
     let mut held = measure::Held((loads::start(n), Counts::default()));
     Box::new(move || {
         let (state, counts) = &mut held.0;
-        let verdict = version.run(black_box(state), black_box(&bytes), counts);
-        black_box((verdict, counts));
+        for bytes in &calls {
+            let verdict = version.run(black_box(&mut *state), black_box(bytes), counts);
+            black_box((verdict, &mut *counts));
+        }
     })
 }
 

@@ -1,22 +1,29 @@
-//! The reader's state as each version is handed it, 1,568 bytes that the host keeps, and the calls that all versions in Rust share: fresh, load and ask.
+//! The reader's state as each version is handed it, the 1,568 bytes of docs/LAYOUT.md that the host keeps, and the calls that all versions in Rust share: fresh, load and ask.
 
 use crate::panel::{ids_differ, Setup, Slot, Table, PER_SLOT, RECORDS, UNUSED, ZERO};
 
-pub const FOLLOWING: u32 = 0;
-pub const DROPPED: u32 = 1;
-pub const STALE: u32 = 2;
+pub const FOLLOWING: u8 = 0;
+pub const DROPPED: u8 = 1;
+pub const STALE: u8 = 2;
+
+/// The version of the layout, and the kind of state that a reader's is.
+const VERSION: u8 = 1;
+const KIND: u8 = 2;
 
 #[repr(C)]
 #[derive(Clone, Copy, PartialEq, Debug)]
 pub struct State {
-    pub setup: Setup,
+    pub version: u8,
+    pub kind: u8,
+    pub mode: u8,
+    pub zero: u8,
     pub current: u32,
-    pub mode: u32,
+    pub setup: Setup,
     pub shown: Table,
     pub pending: Table,
 }
 
-/// A run's counts, and the first record skipped: 0 for none, else 2^32 with its code and type below.
+/// A run's counts, and the first record skipped: whether there was one, its type and its code.
 #[repr(C)]
 #[derive(Clone, Copy, PartialEq, Debug, Default)]
 pub struct Counts {
@@ -25,12 +32,14 @@ pub struct Counts {
     pub codes: u64,
     pub bad: u64,
     pub ignored: u64,
-    pub first: u64,
+    pub skipped: u64,
+    pub kind: u64,
+    pub code: u64,
 }
 
 impl Counts {
     pub const fn all(n: u64) -> Counts {
-        Counts { shown: n, types: n, codes: n, bad: n, ignored: n, first: n }
+        Counts { shown: n, types: n, codes: n, bad: n, ignored: n, skipped: n, kind: n, code: n }
     }
 
     /// A record of this type and code is skipped.
@@ -39,41 +48,50 @@ impl Counts {
             0 | 3 => self.codes += 1,
             _ => self.types += 1,
         }
-        if self.first == 0 {
-            self.first = 1 << 32 | u64::from(code) << 16 | u64::from(kind);
+        if self.skipped == 0 {
+            (self.skipped, self.kind, self.code) = (1, kind.into(), code.into());
         }
     }
 }
 
-pub const EMPTY: u32 = 0;
-pub const CONTACT: u32 = 1;
-pub const UNKNOWN: u32 = 2;
-pub const NO_SUCH_SLOT: u32 = 3;
+pub const UNKNOWN: i32 = 0;
+pub const EMPTY: i32 = 1;
+pub const CONTACT: i32 = 2;
+pub const NO_SUCH_SLOT: i32 = 3;
 
-/// What is told of a slot: empty, a contact with its numbers, unknown or no such slot. Zeros where it is no contact, and where the call is refused.
+/// What is told of a slot: unknown, empty, a contact with its numbers or no such slot. Zeros where it is no contact, and where the call is refused.
 #[repr(C)]
 #[derive(Clone, Copy, PartialEq, Debug)]
 pub struct Told {
-    pub kind: u32,
+    pub kind: i32,
     pub slot: Slot,
 }
 
 impl State {
     pub fn with(setup: Setup, table: Table) -> State {
-        State { setup, current: 0, mode: FOLLOWING, shown: table, pending: table }
+        State {
+            version: VERSION,
+            kind: KIND,
+            mode: FOLLOWING,
+            zero: 0,
+            current: 0,
+            setup,
+            shown: table,
+            pending: table,
+        }
     }
 
-    /// Refusal 1 gives zeros in the state's place.
-    pub fn fresh(setup: Setup) -> (u64, State) {
-        if !setup.ok() {
-            return (1, State::with(Setup::ZERO, [ZERO; RECORDS]));
-        }
-        (0, State::with(setup, [UNUSED; RECORDS]))
+    /// None with refusal 1.
+    pub fn fresh(setup: Setup) -> Option<State> {
+        setup.ok().then(|| State::with(setup, [UNUSED; RECORDS]))
     }
 
     /// What refusal 2 judges, at every call.
     pub fn well_formed(&self) -> bool {
-        self.setup.ok()
+        self.version == VERSION
+            && self.kind == KIND
+            && self.zero == 0
+            && self.setup.ok()
             && self.setup.table_ok(&self.shown)
             && self.setup.table_ok(&self.pending)
             && ids_differ(self.setup.n, &self.shown)
@@ -94,7 +112,11 @@ impl State {
             *slot = Slot::of(row);
         }
         let n = self.setup.n as usize;
-        if image.len() != PER_SLOT * n || current >= n || !self.setup.table_ok(&table) || !ids_differ(self.setup.n, &table) {
+        if image.len() != PER_SLOT * n
+            || current >= n
+            || !self.setup.table_ok(&table)
+            || !ids_differ(self.setup.n, &table)
+        {
             return 8;
         }
         *self = State { current: current as u32, ..State::with(self.setup, table) };

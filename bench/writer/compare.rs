@@ -1,12 +1,12 @@
-//! Whether all versions of the writer answer the same: the state's 844 bytes, the verdict, every number of the answer and every byte of the buffer.
+//! Whether all versions of the writer answer the same: the state's 848 bytes, the verdict, every number of the answer and every byte of the buffer.
 
 use crate::calls::{agreed, Noise, Verdicts};
 use crate::loads::{frames, landing, parts, setup, LOADS};
 use crate::measure::SIZES;
 use crate::panel::{Setup, PER_SLOT, RECORDS};
-use crate::state::{Display, State};
+use crate::state::{Display, State, BLANK};
 use crate::version::Answer;
-use crate::{BLANK, ROOM, UNTOLD, VERSIONS};
+use crate::{ROOM, UNTOLD, VERSIONS};
 
 const RANDOM_CALLS: usize = 20_000;
 
@@ -33,14 +33,14 @@ fn fresh(given: [u32; 6], pointer: bool, verdicts: &mut Verdicts) -> Result<Stat
 
 /// The verdict and what came out, the same of every version. What is refused comes out as it went in, with zeros.
 fn write(call: &Call, verdicts: &mut Verdicts) -> Result<(u64, Call), String> {
-    let answers = VERSIONS.each_ref().map(|version| {
+    let answers = VERSIONS.iter().map(|version| {
         let (mut out, mut answer) = (call.clone(), UNTOLD);
         let verdict = version.write(&mut out.state, &call.frame, &mut out.buf, call.at, &mut answer);
         (version.name, (verdict, answer, out))
     });
     let (verdict, answer, out) = agreed(call, answers)?;
     let need = if verdict == 5 { answer.need } else { 0 };
-    if verdict != 0 && (out != *call || answer != (Answer { count: 0, changed: 0, need })) {
+    if verdict != 0 && (out != *call || answer != (Answer { count: 0, need, changed: 0 })) {
         return Err(format!("refused by {verdict}, and something moved: {call:?}"));
     }
     verdicts.note(verdict)?;
@@ -119,12 +119,12 @@ const BROKEN: [(u64, fn(&mut Call)); 34] = [
 
 /// What is done to a state of four slots in contact with K6's option off: all is refused by 2.
 const NOT_OFF: [fn(&mut State); 9] = [
-    |s| s.display.on = 1,
-    |s| s.display.on = 2,
-    |s| s.display.touch = 1,
-    |s| s.display.tool = 0x14f,
-    |s| s.display.x = 1,
-    |s| s.display.y = 1 << 31,
+    |s| s.on = 1,
+    |s| s.on = 2,
+    |s| s.touch = 1,
+    |s| s.tool = 0x14f,
+    |s| s.x = 1,
+    |s| s.y = 1 << 31,
     |s| s.ranks[0] = 1,
     |s| s.ranks[3] = 255,
     |s| s.ranks[RECORDS - 1] = 1,
@@ -132,15 +132,15 @@ const NOT_OFF: [fn(&mut State); 9] = [
 
 /// The same with the option on: slot 0 leads, at 100 and 200, and all ranks are 0.
 const NOT_ON: [fn(&mut State); 21] = [
-    |s| s.display.on = 0,
-    |s| s.display.on = 3,
-    |s| s.display.touch = 0,
-    |s| s.display.touch = 2,
-    |s| s.display.tool = 0,
-    |s| s.display.tool = 0x14e,
-    |s| s.display.tool = 0x148,
-    |s| s.display.x = 101,
-    |s| s.display.y = 0,
+    |s| s.on = 0,
+    |s| s.on = 3,
+    |s| s.touch = 0,
+    |s| s.touch = 2,
+    |s| s.tool = 0,
+    |s| s.tool = 0x14e,
+    |s| s.tool = 0x148,
+    |s| s.x = 101,
+    |s| s.y = 0,
     |s| s.ranks[0] = 1,
     |s| s.ranks[1] = 2,
     |s| s.ranks[1] = RECORDS as u8,
@@ -172,11 +172,11 @@ const NOT_LEFT: [fn(&mut State); 6] = [
     |s| s.table.iter_mut().for_each(|slot| slot.id = -1),
     |s| {
         leave(s, 1, 1);
-        s.display.touch = 1;
+        s.touch = 1;
     },
     |s| {
         leave(s, 1, 1);
-        s.display.tool = 0x145;
+        s.tool = 0x145;
     },
     |s| {
         leave(s, 1, 1);
@@ -186,18 +186,19 @@ const NOT_LEFT: [fn(&mut State); 6] = [
 
 fn lead(state: &mut State, s: usize, ranks: [u8; 4]) {
     state.ranks[..4].copy_from_slice(&ranks);
-    (state.display.x, state.display.y) = (state.table[s].x, state.table[s].y);
+    (state.x, state.y) = (state.table[s].x, state.table[s].y);
 }
 
 fn leave(state: &mut State, x: u32, y: u32) {
     state.table.iter_mut().for_each(|slot| slot.id = -1);
-    state.display = Display { x, y, ..Display::fresh(true) };
+    state.show(Display { x, y, ..Display::OFF });
 }
 
 /// Four slots in contact, and a frame that moves slot 0 and replaces slot 3.
 fn landed(pointer: bool, verdicts: &mut Verdicts) -> Result<Call, String> {
     let (frame, buf) = (landing(4), vec![0xa5; ROOM]);
-    let mut call = write(&Call { state: State::fresh(setup(4), pointer).1, frame, buf, at: 20 }, verdicts)?.1;
+    let mut call =
+        write(&Call { state: State::fresh(setup(4), pointer).unwrap_or(BLANK), frame, buf, at: 20 }, verdicts)?.1;
     call.frame[1..6].copy_from_slice(&[7, 7, 7, 7, 7]);
     call.frame[18] = 2;
     Ok(call)

@@ -91,11 +91,11 @@ fn ranks_after(old: &Table, new: &Table, ranks: &Ranks) -> Ranks {
 
 /// Ranks and display after a frame; as they were with the option off.
 fn move_on(state: &State, new: &Table) -> (Ranks, Display) {
-    if state.display.on == 0 {
-        return (state.ranks, state.display);
+    if state.on == 0 {
+        return (state.ranks, state.display());
     }
     let ranks = ranks_after(&state.table, new, &state.ranks);
-    (ranks, state.display.of(new, &ranks))
+    (ranks, state.display().of(new, &ranks))
 }
 
 /// The changed slots, bit s for slot s, and how many numbers changed.
@@ -200,7 +200,7 @@ fn write(state: State, frame: &[i32], buf: &mut [u8], at: usize) -> Written {
     let current = state.current as usize;
     let others = changed & !(1 << current);
     let (ranks, display) = move_on(&state, &new);
-    let told = state.display.events(&display);
+    let told = state.display().events(&display);
     let count = if numbers == 0 { 0 } else { 1 + numbers + others.count_ones() as usize + told };
     let need = 8 * count;
     if at > buf.len() || buf.len() - at < need {
@@ -209,12 +209,13 @@ fn write(state: State, frame: &[i32], buf: &mut [u8], at: usize) -> Written {
     let mut last = current;
     if count != 0 {
         let mut to = at;
-        put_touch(buf, &mut to, &state.display, &display);
+        put_touch(buf, &mut to, &state.display(), &display);
         last = put_slots(buf, &mut to, &old, &new, current, others);
-        put_display(buf, &mut to, &state.display, &display);
+        put_display(buf, &mut to, &state.display(), &display);
         put(buf, &mut to, 0, 0, 0);
     }
-    let state = State { setup: state.setup, current: last as u32, counter, table: new, display, ranks };
+    let mut state = State { current: last as u32, counter, table: new, ranks, ..state };
+    state.show(display);
     Written { state, outcome: Ok(Sent { count, changed }) }
 }
 

@@ -150,16 +150,16 @@ impl State {
             rows.find(|(row, rank)| row[0] != 0 && **rank == 0).map(|(row, _)| (row[1] as u32, row[2] as u32))
         };
         if changes.ids == 0 {
-            let (x, y) = place(&self.ranks).unwrap_or((self.display.x, self.display.y));
-            return Pointing { ranks: self.ranks, display: Display { x, y, ..self.display } };
+            let (x, y) = place(&self.ranks).unwrap_or((self.x, self.y));
+            return Pointing { ranks: self.ranks, display: Display { x, y, ..self.display() } };
         }
         let (ranks, live) = self.new_ranks(frame, changes);
-        Pointing { ranks, display: self.display.told(live, place(&ranks)) }
+        Pointing { ranks, display: self.display().told(live, place(&ranks)) }
     }
 
     /// Sends what the display is told behind the contact events, and stores what it is told.
     fn send_display(&mut self, next: &Pointing, out: &mut Records) {
-        let (was, is) = (self.display, next.display);
+        let (was, is) = (self.display(), next.display);
         if was.tool != is.tool {
             if was.tool != 0 {
                 out.put((was.tool as u32) << 16 | 1, 0);
@@ -174,14 +174,14 @@ impl State {
         if was.y != is.y {
             out.put(TELL_Y, is.y as i32);
         }
-        self.display = is;
+        self.show(is);
         self.ranks = next.ranks;
     }
 
     /// Stores and sends what changes, the current slot first.
     fn send(&mut self, frame: &[i32], changes: &Changes, next: Option<Pointing>, out: &mut Records) {
         if let Some(Pointing { display, .. }) = &next {
-            if display.touch != self.display.touch {
+            if display.touch != self.touch {
                 out.put(TELL_TOUCH, display.touch as i32);
             }
         }
@@ -247,8 +247,8 @@ impl State {
         if changes.slots == 0 {
             return if at > buf.len() { refused(5, 0) } else { Ok(Sent { count: 0, changed: 0 }) };
         }
-        let next = (self.display.on != 0).then(|| self.pointing(frame, &changes));
-        let told = next.as_ref().map_or(0, |next| self.display.events(&next.display));
+        let next = (self.on != 0).then(|| self.pointing(frame, &changes));
+        let told = next.as_ref().map_or(0, |next| self.display().events(&next.display));
         let count = changes.events(self.current as usize) + told;
         if at > buf.len() || buf.len() - at < 8 * count {
             return refused(5, 8 * count);
@@ -258,10 +258,21 @@ impl State {
     }
 }
 
+#[allow(dead_code)] // the other versions' program has no use for it
 pub struct InPlace;
 
 impl Writer for InPlace {
     fn write(state: &mut State, frame: &[i32], buf: &mut [u8], at: usize) -> Result<Sent, Refused> {
         state.write::<false>(frame, buf, at)
+    }
+}
+
+/// The same for a state that nobody else can touch, as Rust's types would have it: it is never judged.
+#[allow(dead_code)] // measured by others.rs
+pub struct Typed;
+
+impl Writer for Typed {
+    fn write(state: &mut State, frame: &[i32], buf: &mut [u8], at: usize) -> Result<Sent, Refused> {
+        state.write::<true>(frame, buf, at)
     }
 }

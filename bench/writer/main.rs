@@ -13,50 +13,34 @@ mod panel;
 mod state;
 mod version;
 
-use panel::{Setup, MOST_EVENTS, RECORDS, ZERO};
-use state::{Display, State};
+use panel::MOST_EVENTS;
+use state::BLANK;
 use std::hint::black_box;
 use version::{in_rust, Answer, Version};
 
 extern "C" {
-    fn rattle_fresh(
-        state: &mut State,
-        n: u32,
-        x: u32,
-        y: u32,
-        pressure: u32,
-        major: u32,
-        minor: u32,
-        pointer: u32,
-    ) -> u64;
-    fn rattle_write(
-        state: &mut State,
+    fn chandrulek_writer_fresh(state: *mut u8, size: usize, setup: &[u32; 6], pointer: u32) -> u32;
+    fn chandrulek_write(
+        state: *mut u8,
+        size: usize,
         frame: *const i32,
         numbers: usize,
         buf: *mut u8,
-        size: usize,
+        room: usize,
         at: usize,
         answer: &mut Answer,
-    ) -> u64;
+    ) -> u32;
 }
 
-pub const BLANK: State = State {
-    setup: Setup::ZERO,
-    current: 0,
-    counter: 0,
-    table: [ZERO; RECORDS],
-    display: Display::OFF,
-    ranks: [0; RECORDS],
-};
 /// What stands in the answer's place before a call, so that a number that is not told shows.
-pub const UNTOLD: Answer = Answer { count: 77, changed: 77, need: 77 };
+pub const UNTOLD: Answer = Answer { count: 77, need: 77, changed: 77 };
 /// The most bytes that a frame can need, with the four events that K6's display can be told.
 pub const ROOM: usize = 8 * (MOST_EVENTS + 4);
 
 static VERSIONS: [Version; 3] = [
     in_rust::<copies::Copies>("copies"),
     in_rust::<inplace::InPlace>("inplace"),
-    Version { name: "rattle", fresh: rattle_fresh, write: rattle_write },
+    Version { name: "rattle", fresh: chandrulek_writer_fresh, write: chandrulek_write },
 ];
 
 /// All frames of a load, one call each.

@@ -1,23 +1,33 @@
-//! The writer's state as each version is handed it, 844 bytes that the host keeps, and what refusals 1 and 2 judge.
+//! The writer's state as each version is handed it, the 848 bytes of docs/LAYOUT.md that the host keeps, and what refusals 1 and 2 judge.
 
 use crate::panel::{ids_differ, Setup, Slot, Table, RECORDS, UNUSED, ZERO};
 
 #[repr(C)]
 #[derive(Clone, Copy, PartialEq, Debug)]
 pub struct State {
+    pub version: u8,
+    pub kind: u8,
+    pub on: u8,
+    pub touch: u8,
+    pub tool: u16,
+    pub zero: u16,
     pub setup: Setup,
     pub current: u32,
     pub counter: u32,
+    pub x: u32,
+    pub y: u32,
     pub table: Table,
-    pub display: Display,
     pub ranks: Ranks,
 }
+
+/// The version of the layout, and the kind of state that a writer's is.
+const VERSION: u8 = 1;
+const KIND: u8 = 1;
 
 /// By beginning, from 0; 0 for an unused record, and always with the option off.
 pub type Ranks = [u8; RECORDS];
 
 /// What K6's old display was told last, with the option itself, 0 or 1: all zeros with the option off.
-#[repr(C)]
 #[derive(Clone, Copy, PartialEq, Debug)]
 pub struct Display {
     pub x: u32,
@@ -30,10 +40,6 @@ pub struct Display {
 
 impl Display {
     pub const OFF: Display = Display { x: 0, y: 0, tool: 0, touch: 0, on: 0 };
-
-    pub fn fresh(pointer: bool) -> Display {
-        Display { on: pointer as u8, ..Display::OFF }
-    }
 
     /// What it is told of slots with good ranks. While no contact is live X and Y keep still.
     pub fn of(&self, slots: &[Slot], ranks: &[u8]) -> Display {
@@ -72,26 +78,47 @@ fn ranks_ok(slots: &[Slot], ranks: &[u8]) -> bool {
     held & held.wrapping_add(1) == 0
 }
 
+/// Zeros, which are no state.
+pub const BLANK: State = State {
+    version: 0,
+    kind: 0,
+    on: 0,
+    touch: 0,
+    tool: 0,
+    zero: 0,
+    setup: Setup::ZERO,
+    current: 0,
+    counter: 0,
+    x: 0,
+    y: 0,
+    table: [ZERO; RECORDS],
+    ranks: UNRANKED,
+};
+
 impl State {
-    /// Refusal 1 gives zeros in the state's place.
-    pub fn fresh(setup: Setup, pointer: bool) -> (u64, State) {
-        let state = |setup, slot, display| State {
-            setup,
-            current: 0,
-            counter: 0,
-            table: [slot; RECORDS],
-            display,
-            ranks: UNRANKED,
-        };
+    /// None with refusal 1.
+    pub fn fresh(setup: Setup, pointer: bool) -> Option<State> {
         if !setup.ok() {
-            return (1, state(Setup::ZERO, ZERO, Display::OFF));
+            return None;
         }
-        (0, state(setup, UNUSED, Display::fresh(pointer)))
+        Some(State { setup, table: [UNUSED; RECORDS], on: pointer as u8, version: VERSION, kind: KIND, ..BLANK })
+    }
+
+    pub fn display(&self) -> Display {
+        Display { x: self.x, y: self.y, tool: self.tool, touch: self.touch, on: self.on }
+    }
+
+    /// The option stays.
+    pub fn show(&mut self, display: Display) {
+        (self.x, self.y, self.tool, self.touch) = (display.x, display.y, display.tool, display.touch);
     }
 
     /// What refusal 2 judges, at every call.
     pub fn well_formed(&self) -> bool {
-        self.setup.ok()
+        self.version == VERSION
+            && self.kind == KIND
+            && self.zero == 0
+            && self.setup.ok()
             && self.setup.table_ok(&self.table)
             && ids_differ(self.setup.n, &self.table)
             && self.current < self.setup.n
@@ -101,8 +128,8 @@ impl State {
 
     /// With the option off all is 0. With it on ranks are well formed, and the display was told what they and the table give.
     fn pointing_ok(&self) -> bool {
-        match self.display.on {
-            0 => self.display == Display::OFF && self.ranks == UNRANKED,
+        match self.on {
+            0 => self.display() == Display::OFF && self.ranks == UNRANKED,
             1 => self.ranked_and_told(),
             _ => false,
         }
@@ -113,8 +140,8 @@ impl State {
         let (ranks, rest) = self.ranks.split_at(slots.len());
         ranks_ok(slots, ranks)
             && *rest == UNRANKED[..rest.len()]
-            && self.display == self.display.of(slots, ranks)
-            && self.display.x <= self.setup.x
-            && self.display.y <= self.setup.y
+            && self.display() == self.display().of(slots, ranks)
+            && self.x <= self.setup.x
+            && self.y <= self.setup.y
     }
 }

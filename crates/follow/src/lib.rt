@@ -74,7 +74,7 @@ fn first_of(bytes: &[u8], skipped: usize, first: usize) -> FirstSkipped
 
 // The number of the first record skipped, where record k is skipped too. A number and no event: what an event has would be kept in memory beside the
 // loop's other numbers.
-fn earliest(skipped: usize, first: usize, k: usize) -> usize
+pub fn earliest(skipped: usize, first: usize, k: usize) -> usize
     ensures { λ r. ⌜ r ≡ firstAfter skipped first k ⌝ }
 {
     if 0 < skipped {
@@ -83,15 +83,15 @@ fn earliest(skipped: usize, first: usize, k: usize) -> usize
     k
 }
 
-// What a run that follows has counted; `first` is the number of the first record skipped.
-struct SoFar {
-    frames: usize,
-    types: usize,
-    codes: usize,
-    first: usize,
+// What a run that follows has counted, here or in lent bytes; `first` is the number of the first record skipped.
+pub struct SoFar {
+    pub frames: usize,
+    pub types: usize,
+    pub codes: usize,
+    pub first: usize,
 }
 
-fn counted(bytes: &[u8], so: SoFar, bad: usize) -> Counts
+pub fn counted(bytes: &[u8], so: SoFar, bad: usize) -> Counts
     requires { ⌜ Skips so (length (now bytes)) ⌝ }
     ensures { λ r. ⌜ r ≡ countsFrom (soFar (now (bytes .entry)) so bad) ⌝ }
 {

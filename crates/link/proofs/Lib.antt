@@ -17,6 +17,9 @@
 -- PiecesCalls: its claims are the contracts, their refusals exact; pieces from a fresh state, and what is asked between them.
 -- Long: any shift at every moment: a reader given all its bytes, through the line's pieces or a recording too, one that comes late, a crane's, and the ids (K14).
 -- Anonymous: a type A frame written as type B: its refusals, the pairing, who is where, and that it is a frame of `write` (K12).
+-- HostsFit: a well-formed writer's numbers have room in its bytes.
+-- HostsCalls: a call over lent bytes is the call by value (K11).
+-- Hosts: a shift and a loss as C hosts see them (K11).
 pub mod Contracts
 pub mod Exact
 pub mod Demands
@@ -35,3 +38,6 @@ pub mod Pieces
 pub mod PiecesCalls
 pub mod Long
 pub mod Anonymous
+pub mod HostsFit
+pub mod HostsCalls
+pub mod Hosts

@@ -159,7 +159,7 @@ module _ (u : Setup) (on : Bool) (made : FreshWriter) (cs : List WriteCall) (m :
   pub reader-accepts : (r : FreshAnswer) → ReaderMade u r → r .verdict ≡ Accepted
   reader-accepts r e = ap (λ (x : FreshAnswer). x .verdict) e ∙ ap (λ (x : C.FreshReader). R.freshFrom x .verdict) (reader-made base (setupOf u) good-setup)
 
-  fresh-pupil : (r : FreshAnswer) → ReaderMade u r → r .state ≡ pupilOf (made .state)
+  pub fresh-pupil : (r : FreshAnswer) → ReaderMade u r → r .state ≡ pupilOf (made .state)
   fresh-pupil r e =
       ap (λ (x : FreshAnswer). x .state) e
       ∙ ap (λ (x : C.FreshReader). R.held (x .state)) (reader-made base (setupOf u) good-setup)

@@ -133,7 +133,7 @@ pub fn numbers_ok(setup: Setup, r: Row) -> bool
                 & (common::within(r.major, setup.major) & common::within(r.minor, setup.minor))))
 }
 
-fn slot_ok(setup: Setup, s: Slot) -> bool
+pub fn slot_ok(setup: Setup, s: Slot) -> bool
     ensures { λ r. ⌜ r ≡ goodSlot (fieldsOf setup) (slotOf s) ⌝ }
 {
     let id = s.id;
@@ -155,7 +155,7 @@ fn slots_same(a: Slot, b: Slot) -> bool
                 & ((a.pressure == b.pressure) & ((a.major == b.major) & (a.minor == b.minor)))))
 }
 
-fn slot_unused(s: Slot) -> bool
+pub fn slot_unused(s: Slot) -> bool
     ensures { λ r. ⌜ r ≡ eqSlot (slotOf s) (slotOf unused) ⌝ }
 {
     slots_same(s, Slot::unused())

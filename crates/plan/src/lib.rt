@@ -39,7 +39,7 @@ fn absent(taken: &[i32], v: TrackingId) -> bool
     !found
 }
 
-fn id_of(k: u32) -> TrackingId
+pub fn id_of(k: u32) -> TrackingId
     requires { ⌜ k < idCount ⌝ }
     ensures { λ r. ⌜ r ≡ record { 0 = pos k } ⌝ }
 {
@@ -47,7 +47,7 @@ fn id_of(k: u32) -> TrackingId
     TrackingId(v)
 }
 
-fn after(k: u32) -> u32
+pub fn after(k: u32) -> u32
     requires { ⌜ k < idCount ⌝ }
     ensures { λ r. ⌜ r ≡ next k ⌝ }
 {
@@ -55,7 +55,7 @@ fn after(k: u32) -> u32
 }
 
 // The bit of 64 that an id falls on.
-fn mark_of(k: u32) -> u64
+pub fn mark_of(k: u32) -> u64
     requires { ⌜ k < idCount ⌝ }
     ensures { λ r. ⌜ r ≡ bitOf (pos k) ⌝ }
 {
@@ -63,7 +63,7 @@ fn mark_of(k: u32) -> u64
 }
 
 // The bits that ids fall on. One that is -1 falls on the last, which does no harm: an id on a bit that is set is compared with all.
-fn marks_of(ids: &[i32]) -> u64
+pub fn marks_of(ids: &[i32]) -> u64
     ensures { λ r. ⌜ Met r (now (ids .entry)) ⌝ }
 {
     let mut held: u64 = 0;
@@ -87,7 +87,7 @@ fn free(taken: &[i32], held: u64, k: u32) -> bool
 }
 
 // The first number from `from` on, wrapping, that is not taken: as many tries as ids can be taken are enough.
-fn choose(taken: &[i32], held: u64, from: u32) -> u32
+pub fn choose(taken: &[i32], held: u64, from: u32) -> u32
     requires { ⌜ (length (now taken) ≤ 2 * records) × (from < idCount) × Met held (now taken) ⌝ }
     ensures { λ r. ⌜ (r < idCount) × (r ≡ freeId (now (taken .entry)) from) ⌝ }
 {
@@ -120,7 +120,7 @@ fn ids_of(n: usize, t: [Slot; RECORDS]) -> [i32; TAKEN]
     l
 }
 
-fn begins(kind: i32, id: TrackingId) -> bool
+pub fn begins(kind: i32, id: TrackingId) -> bool
     ensures { λ r. ⌜ r ≡ begun (fate kind (id .0)) ⌝ }
 {
     if common::same(kind, 0) {
@@ -133,7 +133,7 @@ fn begins(kind: i32, id: TrackingId) -> bool
 }
 
 // A slot that has a contact: its id and the row's numbers, which are not negative, so that their bits are they themselves.
-fn contact(id: TrackingId, r: Row) -> Slot
+pub fn contact(id: TrackingId, r: Row) -> Slot
     ensures { λ s. ⌜ s ≡ contactOf (id .0) (rowOf r) ⌝ }
 {
     let a = records::bits_of(r.x);
@@ -152,7 +152,7 @@ fn contact(id: TrackingId, r: Row) -> Slot
 }
 
 // A slot without a contact. A lifted contact's numbers stay: the next one may land on them.
-fn lift(was: Slot) -> Slot
+pub fn lift(was: Slot) -> Slot
     ensures { λ r. ⌜ r ≡ lifted was ⌝ }
 {
     Slot {
@@ -165,7 +165,7 @@ fn lift(was: Slot) -> Slot
     }
 }
 
-fn stays(was: Slot, r: Row) -> Slot
+pub fn stays(was: Slot, r: Row) -> Slot
     ensures { λ s. ⌜ s ≡ stayed (eqZ (r .first) (pos 0)) was (rowOf r) ⌝ }
 {
     if common::same(r.first, 0) {
@@ -188,7 +188,7 @@ fn numbers_same(was: Slot, r: Row) -> bool
 }
 
 // A slot that holds a pressure of 0 is no contact that a frame may give: its row is judged.
-fn quiet(was: Slot, r: Row) -> bool
+pub fn quiet(was: Slot, r: Row) -> bool
     ensures { λ b. ⌜ b ≡ quietRow was (rowOf r) ⌝ }
 {
     let id = was.id;

@@ -94,7 +94,7 @@ fn put_rest(b: &mut [u8], at: usize, old: Slot, new: Slot) -> usize
     put_number(b, j, minor)
 }
 
-fn put_changes(b: &mut [u8], at: usize, old: Slot, new: Slot) -> usize
+pub fn put_changes(b: &mut [u8], at: usize, old: Slot, new: Slot) -> usize
     requires { ⌜ at + length (bytesSent (changes 0 (slotOf old) (slotOf new))) ≤ length (now b) ⌝ }
     ensures { λ r. ⌜ (r ≡ at + length (bytesSent (changes 0 (slotOf old) (slotOf new)))) × (now (b .exit) ≡ lay at (bytesSent (changes 0 (slotOf old) (slotOf new))) (now (b .entry))) ⌝ }
 {
@@ -102,7 +102,7 @@ fn put_changes(b: &mut [u8], at: usize, old: Slot, new: Slot) -> usize
     put_rest(b, i, old, new)
 }
 
-fn put_opened(b: &mut [u8], at: usize, s: SlotNumber, old: Slot, new: Slot) -> usize
+pub fn put_opened(b: &mut [u8], at: usize, s: SlotNumber, old: Slot, new: Slot) -> usize
     requires { ⌜ (s .0 < records) × (at + length (bytesSent (sendSlot (s .0) ∷ changes 0 (slotOf old) (slotOf new))) ≤ length (now b)) ⌝ }
     ensures { λ r. ⌜ (r ≡ at + length (bytesSent (sendSlot (s .0) ∷ changes 0 (slotOf old) (slotOf new)))) × (now (b .exit) ≡ lay at (bytesSent (sendSlot (s .0) ∷ changes 0 (slotOf old) (slotOf new))) (now (b .entry))) ⌝ }
 {

@@ -30,10 +30,9 @@ fn take_piece(r: Reading, bytes: &[u8]) -> Reading {
     }
 }
 
-// One read, of as many bytes as the line has ready.
-fn read_some(r: Reading) -> Reading {
-    let mut buf = io::large_buffer();
-    let f = stream::some(&mut buf);
+// One read, of as many bytes as the line has ready. The buffer is lent, since clearing one for each read costs more than many a piece.
+fn read_some(r: Reading, buf: &mut [u8]) -> Reading {
+    let f = stream::some(buf);
     let n = f.n;
     if n == 0 {
         let state = r.state;
@@ -49,7 +48,7 @@ fn read_some(r: Reading) -> Reading {
 }
 
 // A proved loop has to end, and nothing says that the input does: the turns are counted down from a number that no run uses up.
-fn read_all(s: LineState) -> Reading {
+fn read_all(s: LineState, buf: &mut [u8]) -> Reading {
     let mut r = Reading {
         state: s,
         tally: Tally::none(),
@@ -58,7 +57,7 @@ fn read_all(s: LineState) -> Reading {
     };
     let mut turns = u64::MAX;
     while turns > 0 {
-        r = read_some(r);
+        r = read_some(r, buf);
         if !r.again {
             return r;
         }
@@ -75,7 +74,8 @@ fn refuse_rest(page: &mut [u8], out: Out, rest: usize) -> Out {
 }
 
 fn show(page: &mut [u8], out: Out, s: LineState) -> Out {
-    let r = read_all(s);
+    let mut buf = io::large_buffer();
+    let r = read_all(s, &mut buf);
     let line = r.state;
     let state = line.reader;
     let tally = r.tally;

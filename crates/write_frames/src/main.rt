@@ -5,14 +5,11 @@ ghost use Prim.Native.Nat.{_+_, _≤_};
 ghost use lib.ListN.{length, take as first};
 ghost use Rattle.model.specs.Panel.{base};
 ghost use Rattle.model.specs.Calls.{mostEvents};
-use common::Verdict;
 use header::Header;
 use panel::MOST_EVENTS;
 use panel::PER_SLOT;
 use panel::RECORDS;
-use panel::Setup;
 use stream::Out;
-use writer::WriterState;
 
 // The bytes of a number and of a slot's, and the numbers of the largest frame.
 const NUMBER: usize = 4;
@@ -49,19 +46,17 @@ fn numbers_of(bytes: &[u8], frame: &mut [i32]) -> usize
     i
 }
 
-// The writer's state, the output and the number of the frame that comes next, from 1.
+// The output and the number of the frame that comes next, from 1.
 struct Sending {
-    state: WriterState,
     out: Out,
     frame: u64,
 }
 
-// The line of a frame's refusal.
-fn warn_frame(out: Out, frame: u64, verdict: Verdict) -> Out {
-    let a = stream::warn(out, b"frame ");
-    let b = stream::warn_number(a, frame);
-    let c = stream::warn(b, b" ");
-    stream::warn_refused(c, verdict)
+// The line of a frame's refusal, with document 01's number.
+fn warn_frame(out: Out, frame: u64, number: u32) -> Out {
+    let a = stream::warn_part(out.marked(stream::REFUSED), b"frame ", frame, b" refused ");
+    let b = stream::warn_number(a, number as u64);
+    stream::warn(b, b"\n")
 }
 
 // A page that has no room left for any frame's events is written.
@@ -74,31 +69,37 @@ fn roomy(page: &[u8], out: Out) -> Out {
 }
 
 // The output with so many records more, which the writer put on the page.
-fn longer(page: &[u8], out: Out, count: usize) -> Out
+fn longer(page: &[u8], out: Out, count: u64) -> Out
     requires { ⌜ count ≤ mostEvents base + 4 ⌝ }
 {
     let held = stream::within(out.held, page);
     Out {
-        held: held + records::LENGTH * count,
+        held: held + records::LENGTH * count as usize,
         broken: out.broken,
         status: out.status,
     }
 }
 
 // The output after a frame: longer by its records, or its refusal is said.
-fn answered(page: &[u8], out: Out, frame: u64, verdict: Verdict, count: usize) -> Out
+fn answered(page: &[u8], out: Out, frame: u64, number: u32, count: u64) -> Out
     requires { ⌜ count ≤ mostEvents base + 4 ⌝ }
 {
-    if verdict.number() != 0 {
-        return warn_frame(out, frame, verdict);
+    if number != 0 {
+        return warn_frame(out, frame, number);
     }
     longer(page, out, count)
 }
 
-// Each frame of `want` bytes. The state and the numbers are the loop's own: lent from call to call, a whole state would be copied for every frame, and the numbers cleared.
-fn send_frames(page: &mut [u8], s: Sending, bytes: &[u8], want: usize) -> Sending {
+// Each frame of `want` bytes, from the writer's state, which changes in place. The numbers are the loop's own: they are cleared once and not for every frame. What the writer tells begins with the count.
+fn send_frames(
+    page: &mut [u8],
+    state: &mut [u8],
+    s: Sending,
+    bytes: &[u8],
+    want: usize,
+) -> Sending {
     let mut numbers = [0i32; NUMBERS];
-    let mut state = s.state;
+    let mut told = [0u64; 3];
     let mut out = s.out;
     let mut frame = s.frame;
     let mut at: usize = 0;
@@ -109,31 +110,23 @@ fn send_frames(page: &mut [u8], s: Sending, bytes: &[u8], want: usize) -> Sendin
         let count = numbers_of(&bytes[at..at + want], &mut numbers);
         let o = roomy(page, out);
         if o.broken {
-            return Sending {
-                state,
-                out: o,
-                frame,
-            };
+            return Sending { out: o, frame };
         }
-        let a = writer::write(state, &numbers[..count], page, o.held);
-        state = a.state;
-        let verdict = a.verdict;
-        out = answered(page, o, frame, verdict, a.count);
+        let number = lent_writer::write(state, &numbers[..count], page, o.held, &mut told);
+        out = answered(page, o, frame, number, told[0]);
         frame = std::num::wrapping_add_u64(frame, 1);
         at += want;
     }
-    Sending { state, out, frame }
+    Sending { out, frame }
 }
 
 // Nobody knows what was lost with the input, so a reader must not go on with the old table.
 fn lose(page: &mut [u8], s: Sending) -> Sending {
-    let state = s.state;
     let out = s.out;
     let mut record = [0u8; records::LENGTH];
     records::put(&mut record, records::SYN, records::DROPPED, 0);
     let o = stream::say(page, out, &record);
     Sending {
-        state,
         out: stream::warn(
             o,
             b"write_frames: input was lost, so SYN_DROPPED was sent\n",
@@ -151,22 +144,18 @@ struct Turn {
 
 // What came is sent before more is waited for.
 fn flushed(page: &[u8], s: Sending) -> Sending {
-    let state = s.state;
     let out = s.out;
     Sending {
-        state,
         out: stream::flush(page, out),
         frame: s.frame,
     }
 }
 
 // The read failed, or the input ended: inside a frame that is a loss too, and the writer refuses what came of it by its length.
-fn end(page: &mut [u8], s: Sending, bytes: &[u8], failed: bool) -> Sending {
+fn end(page: &mut [u8], state: &mut [u8], s: Sending, bytes: &[u8], failed: bool) -> Sending {
     if failed {
-        let state = s.state;
         let out = s.out;
         let told = Sending {
-            state,
             out: stream::read_failed(out, b"write_frames"),
             frame: s.frame,
         };
@@ -175,14 +164,21 @@ fn end(page: &mut [u8], s: Sending, bytes: &[u8], failed: bool) -> Sending {
     if bytes.len() == 0 {
         return s;
     }
-    let refused = send_frames(page, s, bytes, bytes.len());
+    let refused = send_frames(page, state, s, bytes, bytes.len());
     lose(page, refused)
 }
 
 // The whole frames among what was held and one read more.
-fn take(page: &mut [u8], s: Sending, buf: &mut [u8], total: usize, want: usize) -> Turn {
+fn take(
+    page: &mut [u8],
+    state: &mut [u8],
+    s: Sending,
+    buf: &mut [u8],
+    total: usize,
+    want: usize,
+) -> Turn {
     let count = stream::within(total, buf);
-    let sent = send_frames(page, s, &buf[..count], want);
+    let sent = send_frames(page, state, s, &buf[..count], want);
     if want == 0 {
         return Turn {
             sending: sent,
@@ -200,22 +196,22 @@ fn take(page: &mut [u8], s: Sending, buf: &mut [u8], total: usize, want: usize) 
     }
 }
 
-fn read_some(page: &mut [u8], buf: &mut [u8], turn: Turn, want: usize) -> Turn {
+fn read_some(page: &mut [u8], state: &mut [u8], buf: &mut [u8], turn: Turn, want: usize) -> Turn {
     let s = turn.sending;
     let from = stream::within(turn.held, buf);
     let f = stream::some(&mut buf[from..]);
     if f.n == 0 {
         return Turn {
-            sending: end(page, s, &buf[..from], f.failed),
+            sending: end(page, state, s, &buf[..from], f.failed),
             held: 0,
             again: false,
         };
     }
-    take(page, s, buf, from + f.n, want)
+    take(page, state, s, buf, from + f.n, want)
 }
 
 // A proved loop has to end, and nothing says that the input does: the turns are counted down from a number that no run uses up. A failed write ends it at once.
-fn read_all(page: &mut [u8], buf: &mut [u8], s: Sending, want: usize) -> Out {
+fn read_all(page: &mut [u8], state: &mut [u8], buf: &mut [u8], s: Sending, want: usize) -> Out {
     let mut turn = Turn {
         sending: flushed(page, s),
         held: 0,
@@ -231,7 +227,7 @@ fn read_all(page: &mut [u8], buf: &mut [u8], s: Sending, want: usize) -> Out {
         if !turn.again {
             return out;
         }
-        turn = read_some(page, buf, turn, want);
+        turn = read_some(page, state, buf, turn, want);
         turns -= 1;
     }
     let last = turn.sending;
@@ -243,35 +239,30 @@ fn say_header(page: &mut [u8], out: Out, bytes: &[u8; header::BYTES]) -> Out {
     stream::say(page, out, bytes)
 }
 
-fn setup_of(h: Header) -> Setup {
-    Setup {
-        n: h.n as usize,
-        x: h.x,
-        y: h.y,
-        pressure: h.pressure,
-        major: h.major,
-        minor: h.minor,
+// The writer's option as a number.
+fn option_of(pointer: bool) -> u32 {
+    if pointer {
+        return 1;
     }
+    0
 }
 
 fn after_setup(page: &mut [u8], out: Out, h: Header, pointer: bool) -> Out {
     if h.count < header::BYTES {
         return header::warn_refused(out, b"write_frames", h);
     }
-    let a = WriterState::fresh(setup_of(h), pointer);
-    let verdict = a.verdict;
-    if verdict.number() != 0 {
+    let setup = [h.n, h.x, h.y, h.pressure, h.major, h.minor];
+    let mut state = [0u8; lent_writer::SIZE];
+    if lent_writer::fresh(&mut state, &setup, option_of(pointer)) != 0 {
         return header::warn_refused(out, b"write_frames", h);
     }
     let head = h.bytes;
-    let state = a.state;
     let s = Sending {
-        state,
         out: say_header(page, out, &head),
         frame: 1,
     };
     let mut buf = io::large_buffer();
-    read_all(page, &mut buf, s, ROW * h.n as usize)
+    read_all(page, &mut state, &mut buf, s, ROW * h.n as usize)
 }
 
 fn answer(page: &mut [u8], out: Out, pointer: bool) -> Out {

@@ -1,14 +1,15 @@
 -- `show_table::read_all` ends: the turns fall. Assumes nothing.
-use Prim.Native.Nat.{_≤_}
+use mathlib.Core.Path.{_≡_}
+use lib.ListN.{length}
 use borrow.Author.Needs.{needs}
 use Rattle.show_table.proofs.read_all.Statement.{statement}
 use Rattle.show_table.proofs.read_all.Tie as tie
 
 abbrev Inv-loop : tie.InvT-loop
-Inv-loop r₀ turns₀ r turns = turns ≤ turns
+Inv-loop buf₀ r₀ turns₀ buf r turns = length buf ≡ length buf₀
 
 abbrev μ-loop : tie.MeasureT-loop
-μ-loop r₀ turns₀ r turns = turns
+μ-loop buf₀ r₀ turns₀ buf r turns = turns
 
 none-requires : tie.Need-none-requires Inv-loop μ-loop
 none-requires c κs = search needs
@@ -18,6 +19,9 @@ loop-holds c = search needs
 
 read-some-requires : tie.Need-read-some-requires Inv-loop μ-loop
 read-some-requires c κs = search needs
+
+same-length : tie.Need-same-length Inv-loop μ-loop
+same-length c = search needs
 
 returns : tie.Need-returns Inv-loop μ-loop
 returns c = search needs
@@ -31,6 +35,9 @@ loop-less c = search needs
 loop-again : tie.Need-loop-again Inv-loop μ-loop
 loop-again c = search needs
 
+same-length-2 : tie.Need-same-length-2 Inv-loop μ-loop
+same-length-2 c = search needs
+
 returns-2 : tie.Need-returns-2 Inv-loop μ-loop
 returns-2 c = search needs
 
@@ -43,8 +50,10 @@ read-all-spec =
     none-requires
     loop-holds
     read-some-requires
+    same-length
     returns
     sub-turns
     loop-less
     loop-again
+    same-length-2
     returns-2)

@@ -35,6 +35,9 @@ same-length c = search needs
 same-length-2 : tie.Need-same-length-2
 same-length-2 c = search needs
 
+same-length-3 : tie.Need-same-length-3
+same-length-3 c = search needs
+
 returns : tie.Need-returns
 returns c = search needs
 
@@ -44,11 +47,14 @@ add-take c = search needs
 take-requires : tie.Need-take-requires
 take-requires c κs = search needs
 
-same-length-3 : tie.Need-same-length-3
-same-length-3 c = search needs
-
 same-length-4 : tie.Need-same-length-4
 same-length-4 c = search needs
+
+same-length-5 : tie.Need-same-length-5
+same-length-5 c = search needs
+
+same-length-6 : tie.Need-same-length-6
+same-length-6 c = search needs
 
 returns-2 : tie.Need-returns-2
 returns-2 c = search needs
@@ -67,9 +73,11 @@ read-some-spec =
     end-requires
     same-length
     same-length-2
+    same-length-3
     returns
     add-take
     take-requires
-    same-length-3
     same-length-4
+    same-length-5
+    same-length-6
     returns-2)

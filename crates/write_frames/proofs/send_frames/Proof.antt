@@ -1,6 +1,7 @@
 -- `write_frames::send_frames` lends no byte past those lent to it. The loop has sent the frames before `at`. Assumes nothing.
 use Prim.Native.Nat.{_+_, _*_, ℕ, _≤_, _-_}
-use mathlib.Core.Path.{_≡_, sym, subst}
+use mathlib.Core.Path.{_≡_, sym, ap, subst}
+use mathlib.Core.Bool.{true, false, cond}
 use mathlib.Core.List.{List}
 use lib.IntN.{ℤ}
 use Rattle.model.specs.Panel.{base, perSlot, records}
@@ -8,28 +9,40 @@ use Rattle.model.specs.Calls.{mostEvents}
 use Rattle.model.specs.Pointing.{pointerCall}
 use Rattle.model.proofs.Instances.{base-good}
 use Rattle.model.proofs.PointerCalls.{pointer-limits}
-use Rattle.writer.specs.declared.WriterState.{WriterState}
+use Rattle.common.specs.declared.Verdict.the-variants.{State}
 use Rattle.writer.specs.declared.Written.{Written}
-use Rattle.writer.specs.Seen.{seen, writtenFrom}
+use Rattle.writer.specs.Seen.{seen, writtenFrom, notWrittenBy}
+use Rattle.lent_writer.specs.Seen.{formed, unpacked, toldOf, written}
 use native.Mathlib.Omega.{arith}
-use lib.ListN.{length}
+use lib.ListN.{length, getD}
 use borrow.Author.Needs.{needs}
 use Rattle.write_frames.proofs.send_frames.Statement.{statement}
 use Rattle.write_frames.proofs.send_frames.Tie as tie
 
 abbrev Inv-loop : tie.InvT-loop
-Inv-loop page₀ bytes want numbers₀ state₀ out₀ frame₀ at₀ page numbers state out frame at =
-    (at ≤ length bytes) × (1 ≤ want) × (length page ≡ length page₀) × (length numbers ≡ perSlot * records)
+Inv-loop page₀ state₀ bytes want numbers₀ told₀ out₀ frame₀ at₀ page state numbers told out frame at =
+    (at ≤ length bytes) × (1 ≤ want) × (length page ≡ length page₀) × (length state ≡ length state₀) × (length numbers ≡ perSlot * records) × (length told ≡ 3)
 
 abbrev μ-loop : tie.MeasureT-loop
-μ-loop page₀ bytes want numbers₀ state₀ out₀ frame₀ at₀ page numbers state out frame at = length bytes - at
+μ-loop page₀ state₀ bytes want numbers₀ told₀ out₀ frame₀ at₀ page state numbers told out frame at = length bytes - at
 
 -- Where a turn's frame was written, and where the turn began: too far from its end for a search.
 abbrev wrote : tie.After-wrapping-add-u64 Inv-loop μ-loop → tie.After-write Inv-loop μ-loop
-wrote c = c .before .before .before .before .before .before
+wrote c = c .before .before .before .before .before .before .before
 
 abbrev turn : tie.After-wrapping-add-u64 Inv-loop μ-loop → tie.In-loop Inv-loop μ-loop
-turn c = wrote c .before .before .before .before .before .before .before .before .before .before
+turn c = wrote c .before .before .before .before .before .before .before .before .before .before .before .before
+
+-- No answer of `write` has more events than a frame may have.
+few : (b : List ℕ) (f : List ℤ) (at n : ℕ) → written b f at n .count ≤ mostEvents base + 4
+unfolding written
+few b f at n =
+    let w = writtenFrom (pointerCall base (seen (unpacked b)) f at n) in
+    elim (formed b) as (λ g. cond g w (notWrittenBy State (unpacked b) 0) .count ≤ mostEvents base + 4)
+    [ true ↦ pointer-limits base (seen (unpacked b)) f at n base-good .0 | false ↦ omega arith ]
+
+few-told : (b : List ℕ) (f : List ℤ) (at n : ℕ) (told : List ℕ) → told ≡ toldOf (written b f at n) → getD told 0 0 ≤ mostEvents base + 4
+few-told b f at n told e = subst (λ (l : List ℕ). getD l 0 0 ≤ mostEvents base + 4) (sym e) (few b f at n)
 
 returns : tie.Need-returns Inv-loop μ-loop
 returns c = search needs
@@ -64,6 +77,9 @@ roomy-requires c κs = search needs
 same-length : tie.Need-same-length Inv-loop μ-loop
 same-length c = search needs
 
+same-length-2 : tie.Need-same-length-2 Inv-loop μ-loop
+same-length-2 c = search needs
+
 returns-2 : tie.Need-returns-2 Inv-loop μ-loop
 returns-2 c = search needs
 
@@ -76,15 +92,14 @@ slice-aggregate-write c = search needs
 write-requires : tie.Need-write-requires Inv-loop μ-loop
 write-requires c κs = search needs
 
--- No answer of `write` has more events than a frame may have.
-few : (s : WriterState) (f : List ℤ) (at n : ℕ) (r : Written) → r ≡ writtenFrom (pointerCall base (seen s) f at n) → r .count ≤ mostEvents base + 4
-few s f at n r e = subst (λ (w : Written). w .count ≤ mostEvents base + 4) (sym e) (pointer-limits base (seen s) f at n base-good .0)
+array-read-answered : tie.Need-array-read-answered Inv-loop μ-loop
+array-read-answered c = search needs
 
 answered-requires : tie.Need-answered-requires Inv-loop μ-loop
 answered-requires c κs =
-    let w = c .before .before .before .before in
-    let handed = w .before .before .before .before .before .before .before .before .before .before .before .loop .state in
-    few handed _ _ _ _ (w .write .ensures .0)
+    let w = c .before .before .before .before .before in
+    let handed = w .before .before .before .before .before .before .before .before .before .before .before .before .before .loop .state in
+    few-told handed _ _ _ _ (w .write .ensures .answer)
 
 wrapping-add-u64-requires : tie.Need-wrapping-add-u64-requires Inv-loop μ-loop
 wrapping-add-u64-requires c κs = search needs
@@ -96,10 +111,13 @@ loop-less : tie.Need-loop-less Inv-loop μ-loop
 loop-less c = omega (arith, turn c)
 
 loop-again : tie.Need-loop-again Inv-loop μ-loop
-loop-again c = (omega (arith, turn c), omega (arith, turn c), omega (arith, turn c, wrote c), search needs)
+loop-again c = (omega (arith, turn c), omega (arith, turn c), omega (arith, turn c, wrote c), omega (arith, turn c, wrote c), search needs, ap length (wrote c .write .ensures .answer))
 
-same-length-2 : tie.Need-same-length-2 Inv-loop μ-loop
-same-length-2 c = search needs
+same-length-3 : tie.Need-same-length-3 Inv-loop μ-loop
+same-length-3 c = search needs
+
+same-length-4 : tie.Need-same-length-4 Inv-loop μ-loop
+same-length-4 c = search needs
 
 returns-3 : tie.Need-returns-3 Inv-loop μ-loop
 returns-3 c = search needs
@@ -121,14 +139,17 @@ send-frames-spec =
     numbers-of-requires
     roomy-requires
     same-length
+    same-length-2
     returns-2
     array-share-prefix-numbers
     slice-aggregate-write
     write-requires
+    array-read-answered
     answered-requires
     wrapping-add-u64-requires
     add-at
     loop-less
     loop-again
-    same-length-2
+    same-length-3
+    same-length-4
     returns-3)

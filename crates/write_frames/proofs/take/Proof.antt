@@ -22,6 +22,9 @@ same-length c = search needs
 same-length-2 : tie.Need-same-length-2
 same-length-2 c = search needs
 
+same-length-3 : tie.Need-same-length-3
+same-length-3 c = search needs
+
 returns : tie.Need-returns
 returns c = search needs
 
@@ -37,11 +40,14 @@ keep-requires c κs = search needs
 flushed-requires : tie.Need-flushed-requires
 flushed-requires c κs = search needs
 
-same-length-3 : tie.Need-same-length-3
-same-length-3 c = search needs
-
 same-length-4 : tie.Need-same-length-4
 same-length-4 c = search needs
+
+same-length-5 : tie.Need-same-length-5
+same-length-5 c = search needs
+
+same-length-6 : tie.Need-same-length-6
+same-length-6 c = search needs
 
 returns-2 : tie.Need-returns-2
 returns-2 c = search needs
@@ -56,11 +62,13 @@ take-spec =
     send-frames-requires
     same-length
     same-length-2
+    same-length-3
     returns
     rem-rest
     sub-keep
     keep-requires
     flushed-requires
-    same-length-3
     same-length-4
+    same-length-5
+    same-length-6
     returns-2)

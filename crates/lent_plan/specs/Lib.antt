@@ -1,0 +1,2 @@
+-- A frame planned in the bytes of a table.
+pub mod InPlace

@@ -1,0 +1,2 @@
+-- What the walk over a lent table's slots tells.
+pub mod Judged
