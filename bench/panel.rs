@@ -52,6 +52,7 @@ impl Slot {
 }
 
 impl Setup {
+    #[allow(dead_code)] // the reader's state has none
     pub const ZERO: Setup = Setup { n: 0, x: 0, y: 0, pressure: 0, major: 0, minor: 0 };
 
     pub fn ok(&self) -> bool {

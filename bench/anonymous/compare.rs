@@ -132,7 +132,7 @@ fn random_state(noise: &mut Noise) -> State {
     let n = 1 + noise.below(RECORDS as u32);
     let top = noise.pick(&[1, 3, 9, 32767]);
     let setup = Setup { n, x: top, y: top, pressure: 1 + noise.below(3), major: 1, minor: 1 };
-    let mut state = State::fresh(setup, noise.one_in(2)).1;
+    let mut state = State::fresh(setup, noise.one_in(2)).expect("a good setup");
     state.counter = noise.pick(&[0, 7, 65_500, 65_535]);
     let rare = noise.pick(&[1, 2, 8]);
     let mut row = |_| {

@@ -63,7 +63,7 @@ fn places(noise: &mut Noise, side: u32) -> Places<RECORDS> {
 
 /// The state with these old contacts, in the first of n slots.
 pub fn state(n: u32, pair: &Pair) -> State {
-    let mut state = State::fresh(setup(n), false).1;
+    let mut state = State::fresh(setup(n), false).expect("a good setup");
     for (s, slot) in state.table[..pair.olds].iter_mut().enumerate() {
         let [x, y] = pair.old.map(|old| old[s]);
         *slot = Slot { id: s as i32, x, y, pressure: PRESSURE, major: 0, minor: 0 };

@@ -4,6 +4,7 @@
 #[allow(dead_code)]
 mod calls;
 mod inplace;
+#[allow(dead_code)]
 mod loads;
 #[path = "../measure.rs"]
 mod measure;
