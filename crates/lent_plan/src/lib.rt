@@ -1,18 +1,17 @@
-// The table and the counter that a frame makes, and what it changes, in bytes that hold a copy of the state's table: the walk of `plan`, with each slot stored where it lies. The lent writer stands on it.
+// The table and the counter that a frame makes, and what it changes, in bytes that hold a copy of the state's table: from one row that does not leave its slot as it is to the next, with each slot stored where it lies. The lent writer stands on it.
 ghost use mathlib.Core.Path.{_≡_};
 ghost use Prim.Native.Nat.{_*_, _<_, _≤_};
-ghost use lib.ListN.{length, take, getD, set};
+ghost use lib.ListN.{length, take, set};
 ghost use Rattle.model.specs.Panel.{perSlot, records};
 ghost use Rattle.model.specs.Table.{ids};
 ghost use Rattle.model.specs.Frame.{framed, rowsFrom, valuesGood};
 ghost use Rattle.model.specs.Sending.{changedIn};
-ghost use Rattle.panel.specs.Seen.{slotOf, tableOf, panelSeen, blank};
+ghost use Rattle.panel.specs.Seen.{slotOf, tableOf, panelSeen};
 ghost use Rattle.tally.specs.Told.{Before, withSlot};
 ghost use Rattle.plan.specs.Walk.{planFrom, rowsGood};
 ghost use Rattle.lent.specs.Lent.{tableSize, tableIn};
 ghost use Rattle.lent_plan.specs.InPlace.{LeftIn, PlansIn, ReadyIn, refusal};
 use common::SlotNumber;
-use common::TrackingId;
 use panel::PER_SLOT;
 use panel::RECORDS;
 use panel::Setup;
@@ -23,13 +22,6 @@ use tally::Changed;
 const TAKEN: usize = 2 * RECORDS;
 
 // ---- slots in place
-
-fn slot_of(t: &[u8], s: usize) -> Slot
-    requires { ⌜ (s < records) × (length (now t) ≡ tableSize) ⌝ }
-    ensures { λ r. ⌜ r ≡ getD (tableIn (now (t .entry))) s blank ⌝ }
-{
-    lent::slot_at(t, lent::SLOT * s)
-}
 
 fn put_at(t: &mut [u8], s: usize, w: Slot)
     requires { ⌜ (s < records) × (length (now t) ≡ tableSize) ⌝ }
@@ -55,7 +47,7 @@ fn ids_of(n: usize, t: &[u8]) -> [i32; TAKEN]
     let mut l = [0; TAKEN];
     let mut i: usize = 0;
     while i < n {
-        let s = slot_of(t, i);
+        let s = lent_table::slot_of(t, i);
         let q = s.id;
         let v = q.0;
         l[i] = v;
@@ -111,27 +103,23 @@ fn give_ids(
     let mut changes = from.changes;
     while s < n {
         let r = panel::row_at(frame, PER_SLOT * s);
-        let was = slot_of(t, s);
-        if plan::quiet(was, r) {
-            s += 1;
+        let was = lent_table::slot_of(t, s);
+        if !frame::row_ok(setup, r) {
+            return refused(counter);
+        }
+        if plan::begins(r.first, was.id) {
+            let j = plan::choose(&taken[..m], held, k);
+            let v = plan::id_of(j);
+            changes = make(t, s, was, plan::contact(v, r), changes);
+            let q = v.0;
+            taken[m] = q;
+            held = held | plan::mark_of(j);
+            m += 1;
+            k = plan::after(j);
+            s = lent_table::next_loud(n, t, frame, s + 1);
         } else {
-            if !frame::row_ok(setup, r) {
-                return refused(counter);
-            }
-            if plan::begins(r.first, was.id) {
-                let j = plan::choose(&taken[..m], held, k);
-                let v = plan::id_of(j);
-                changes = make(t, s, was, plan::contact(v, r), changes);
-                let q = v.0;
-                taken[m] = q;
-                held = held | plan::mark_of(j);
-                m += 1;
-                k = plan::after(j);
-                s += 1;
-            } else {
-                changes = make(t, s, was, plan::stays(was, r), changes);
-                s += 1;
-            }
+            changes = make(t, s, was, plan::stays(was, r), changes);
+            s = lent_table::next_loud(n, t, frame, s + 1);
         }
     }
     Plan {
@@ -159,32 +147,21 @@ pub fn plan_frame(
     let mut s = from;
     while s < n {
         let r = panel::row_at(frame, PER_SLOT * s);
-        let was = slot_of(t, s);
+        let was = lent_table::slot_of(t, s);
         if common::same(r.first, 0) {
             changes = make(t, s, was, plan::lift(was), changes);
-            s += 1;
+            s = lent_table::next_loud(n, t, frame, s + 1);
         } else {
             let id = was.id;
-            let w = plan::contact(id, r);
-            let d = tally::differ(was, w);
-            if (d == 0)
-                & common::same(r.first, 1)
-                & !common::same(id.0, TrackingId::UNUSED)
-                & (was.pressure != 0)
-            {
-                s += 1;
-            } else {
-                if plan::begins(r.first, id) {
-                    let from = Reached { slot: s, changes };
-                    return give_ids(setup, counter, frame, from, old, t);
-                }
-                if !frame::row_ok(setup, r) {
-                    return refused(counter);
-                }
-                put_at(t, s, w);
-                changes = tally::with_changed(changes, SlotNumber(s), d);
-                s += 1;
+            if plan::begins(r.first, id) {
+                let from = Reached { slot: s, changes };
+                return give_ids(setup, counter, frame, from, old, t);
             }
+            if !frame::row_ok(setup, r) {
+                return refused(counter);
+            }
+            changes = make(t, s, was, plan::contact(id, r), changes);
+            s = lent_table::next_loud(n, t, frame, s + 1);
         }
     }
     Plan {

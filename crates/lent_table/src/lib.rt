@@ -1,21 +1,30 @@
-// A table that lies in lent bytes: whether it is as a state's should be, and which row of a frame is the first that does not leave its slot as it is. The table stays where it lies: a slot is read as it is looked at. The writer over lent bytes stands on it.
+// A table that lies in lent bytes: whether it is as a state's should be, and which row of a frame is the next that does not leave its slot as it is. The table stays where it lies: a slot is read as it is looked at. The writer over lent bytes stands on it.
 ghost use mathlib.Core.Path.{_≡_};
 ghost use mathlib.Core.Bool.{_&&_};
-ghost use Prim.Native.Nat.{_*_, _≤_};
-ghost use lib.ListN.{length, drop};
+ghost use Prim.Native.Nat.{_*_, _<_, _≤_};
+ghost use lib.ListN.{length, drop, getD};
 ghost use Rattle.model.specs.Panel.{perSlot, records};
 ghost use Rattle.model.specs.Table.{eqTable, idsDiffer as idsApart, goodRecords};
-ghost use Rattle.panel.specs.Seen.{tableOf, fieldsOf, unusedAll, sameFrom};
-ghost use Rattle.plan.specs.Quiet.{FirstLoud};
+ghost use Rattle.panel.specs.Seen.{tableOf, fieldsOf, unusedAll, sameFrom, blank};
+ghost use Rattle.plan.specs.Quiet.{NextLoud};
 ghost use Rattle.lent.specs.Lent.{tableSize, tableIn};
 ghost use Rattle.lent_table.specs.Judged.{JudgedBy};
 use lent::SLOT;
 use panel::PER_SLOT;
 use panel::RECORDS;
 use panel::Setup;
+use panel::Slot;
 
 // The bits of an unused slot's id, which is -1.
 const UNUSED: u32 = 0xffff_ffff;
+
+// A table's slot.
+pub fn slot_of(t: &[u8], s: usize) -> Slot
+    requires { ⌜ (s < records) × (length (now t) ≡ tableSize) ⌝ }
+    ensures { λ r. ⌜ r ≡ getD (tableIn (now (t .entry))) s blank ⌝ }
+{
+    lent::slot_at(t, SLOT * s)
+}
 
 // What a walk over the panel's slots tells: whether they are good but for their ids, and whether no two live ids fall on one of 64 bits.
 struct Judged {
@@ -107,12 +116,12 @@ pub fn table_good(setup: Setup, t: &[u8]) -> bool
     panel::ids_differ(setup.n, lent::table_at(t, 0))
 }
 
-// The first slot whose row does not leave it as it is, or n. Most frames are quiet, and then nothing else is asked.
-pub fn first_loud(n: usize, t: &[u8], frame: &[i32]) -> usize
-    requires { ⌜ (n ≤ records) × (length (now t) ≡ tableSize) × (length (now frame) ≡ perSlot * n) ⌝ }
-    ensures { λ r. ⌜ FirstLoud n (tableIn (now (t .entry))) (now (frame .entry)) r ⌝ }
+// The first slot from `from` on whose row does not leave it as it is, or n. Most rows leave it so, and then nothing else is asked of them.
+pub fn next_loud(n: usize, t: &[u8], frame: &[i32], from: usize) -> usize
+    requires { ⌜ (n ≤ records) × (length (now t) ≡ tableSize) × (length (now frame) ≡ perSlot * n) × (from ≤ n) ⌝ }
+    ensures { λ r. ⌜ NextLoud from n (tableIn (now (t .entry))) (now (frame .entry)) r ⌝ }
 {
-    let mut s: usize = 0;
+    let mut s = from;
     while s < n {
         let r = panel::row_at(frame, PER_SLOT * s);
         if !plan::quiet(lent::slot_at(t, SLOT * s), r) {

@@ -1,24 +1,26 @@
 -- Bytes that are a state's are the bytes of the state that they hold, and a state is what its bytes hold; and what is stored in place. Cited by the proofs of `write`. Assumes nothing.
 use mathlib.Core.Path.{_≡_, refl, sym, ap, ap₂, _∙_}
-use mathlib.Core.Bool.{Bool, true, false}
-use mathlib.Core.List.{List, [], _∷_, _++_}
+use mathlib.Core.Bool.{Bool, true, false, cond}
+use mathlib.Core.List.{List, [], _∷_, _++_, append-nil}
 use Prim.Native.Nat.{ℕ, zero, suc, _+_, _*_, _/_, _%_, _<_, _≤_, _^_}
 use native.Mathlib.Omega.{arith}
 use lib.Dec.{eqb, leb}
-use lib.ListN.{length, getD, take, drop}
-use lib.Seq.{take-add, drop-drop, take-all, take-at, drop-at}
+use lib.ListN.{length, getD, take, drop, length-append}
+use lib.Seq.{take-add, drop-drop, drop-length, take-all, take-at, drop-at}
 use borrow.Author.Tests.{eq-eqb}
 use borrow.Rule.Slice.PartMut.{putMid}
 use Rattle.model.specs.Panel.{records}
 use Rattle.model.specs.Records.{lowBytes, join16, join32, lay}
 use Rattle.panel.specs.declared.Slot.{Slot}
+use Rattle.pointer.specs.declared.Moved.{Moved}
 use Rattle.writer.specs.declared.WriterState.{WriterState}
+use Rattle.writer.specs.Seen.{lastOf}
 use Rattle.lent.specs.Lent.{slotSize, tableSize, slotsFrom, tableIn, setupBytes, tableBytes, Bytes, SlotsFit, SetupFits}
 use Rattle.lent.proofs.Slots.{word-bytes-back, setup-bytes-back}
 use Rattle.lent.proofs.Tables.{table-length, table-back, table-bytes-back, slots-part, slots-length}
-use Rattle.lent_writer.specs.Layout.{stateSize, setupAt, currentAt, counterAt, xAt, yAt, tableAt, optionAt}
+use Rattle.lent_writer.specs.Layout.{stateSize, setupAt, currentAt, counterAt, xAt, yAt, tableAt, ranksAt, optionAt}
 use Rattle.lent_writer.specs.Seen.{byteAt, formed, toldIn, ranksIn, unpacked, flag, headBytes, packed}
-use Rattle.lent_writer.specs.InPlace.{changedTo}
+use Rattle.lent_writer.specs.InPlace.{changedTo, movedTo, movedIn}
 use Rattle.lent_writer.proofs.Forms.{Formed, form, formed-by}
 use Rattle.lent_writer.proofs.Stored.{packed-length}
 
@@ -172,3 +174,42 @@ stored-in-place s b new t c k eb size en =
     let rest = drop-at (tableBytes (s .table)) (s .ranks) 768 size in
     ap₂ (λ x y. lay counterAt (lowBytes 4 k) (lay currentAt (lowBytes 4 c) (putMid tableAt tableSize x y))) eb en
     ∙ ap (λ r. headBytes (s .pointer) (s .told) ++ (setupBytes (s .setup) ++ lowBytes 4 c ++ lowBytes 4 k ++ lowBytes 4 (s .told .x) ++ lowBytes 4 (s .told .y)) ++ (tableBytes t ++ r)) rest
+
+-- The last part in place of another that is as long.
+last-laid : (A R Q : List ℕ) (n : ℕ) → length A ≡ n → length Q ≡ length R → lay n Q (A ++ R) ≡ A ++ Q
+unfolding lay
+last-laid A R Q n ea eq =
+    let whole : n + length Q ≡ length (A ++ R) = omega (arith, ea, eq, length-append A R) in
+    ap₂ (λ x y. x ++ (Q ++ y)) (take-at A R n ea) (ap (λ k. drop k (A ++ R)) whole ∙ drop-length (A ++ R)) ∙ ap (λ l. A ++ l) (append-nil Q)
+
+-- Other ranks and another display in a state's bytes; with the option off they are the same.
+module _ (s : WriterState) (m : Moved) (size : length (tableBytes (s .table)) ≡ tableSize) (ranked : length (s .ranks) ≡ records) (made : length (m .ranks) ≡ records) where
+  abbrev numbers : List ℕ
+  numbers = setupBytes (s .setup) ++ lowBytes 4 (s .current .0) ++ lowBytes 4 (s .counter) ++ lowBytes 4 (m .told .x) ++ lowBytes 4 (m .told .y)
+
+  front-length : length (headBytes true (m .told) ++ numbers ++ tableBytes (s .table)) ≡ ranksAt
+  unfolding setupBytes
+  front-length = omega (arith, size, length-append (headBytes true (m .told) ++ numbers) (tableBytes (s .table)))
+
+  moved-on : s .pointer ≡ true → movedIn m (packed s) ≡ packed (movedTo s m)
+  unfolding packed setupBytes lay
+  moved-on e =
+      let T = tableBytes (s .table) in
+      let laid = lay ranksAt (m .ranks) (headBytes true (m .told) ++ numbers ++ T ++ s .ranks) in
+      ap (λ v. cond (eqb (flag v) 1) laid (packed s)) e
+      ∙ last-laid (headBytes true (m .told) ++ numbers ++ T) (s .ranks) (m .ranks) ranksAt front-length (made ∙ sym ranked)
+      ∙ ap (λ v. headBytes v (m .told) ++ numbers ++ T ++ m .ranks) (sym e)
+
+  moved-off : s .pointer ≡ false → m ≡ lastOf s → movedIn m (packed s) ≡ packed (movedTo s m)
+  unfolding packed setupBytes
+  moved-off e h =
+      let laid = lay ranksAt (m .ranks) (lay yAt (lowBytes 4 (m .told .y)) (lay xAt (lowBytes 4 (m .told .x)) (lay 0 (headBytes true (m .told)) (packed s)))) in
+      ap (λ v. cond (eqb (flag v) 1) laid (packed s)) e ∙ ap (λ x. packed (movedTo s x)) (sym h)
+
+  pub moved-in-place : (b : List ℕ) → b ≡ packed s → (s .pointer ≡ false → m ≡ lastOf s) → movedIn m b ≡ packed (movedTo s m)
+  moved-in-place b eb h =
+      ap (movedIn m) eb
+      ∙ (elim (s .pointer) as (λ on. s .pointer ≡ on → movedIn m (packed s) ≡ packed (movedTo s m)) [
+        | true ↦ λ e. moved-on e
+        | false ↦ λ e. moved-off e (h e)
+      ]) refl

@@ -1,50 +1,38 @@
--- What becomes of a frame in place, where the option is off: refused, handed back or sent, each as the call by value answers. Cited by the proofs of `judged`, `in_place` and `send_frame`. Assumes nothing.
+-- What becomes of a frame in place: refused, handed back or sent, each as the call by value answers. Cited by the proofs of `judged`, `in_place` and `send_frame`. Assumes nothing.
 use mathlib.Core.Path.{_≡_, refl, sym, ap, _∙_, subst}
 use mathlib.Core.Bool.{Bool, true, false, cond}
 use mathlib.Core.List.{List, [], _∷_}
-use Prim.Native.Nat.{ℕ, _+_, _*_, _<_, _≤_, _^_}
+use Prim.Native.Nat.{ℕ, _*_, _<_, _^_}
 use native.Mathlib.Omega.{arith}
 use lib.Dec.{eqb}
 use lib.IntN.{ℤ}
-use lib.ListN.{length, drop, length-append, length-drop}
+use lib.ListN.{length, drop, length-drop}
 use lib.Seq.{length-take-le}
 use Rattle.model.specs.Panel.{base, perSlot, records}
-use Rattle.model.specs.Records.{recordBytes, bytesOf, lay}
+use Rattle.model.specs.Records.{bytesOf, lay}
 use Rattle.model.specs.Frame.{rowsFrom, sized, valuesGood, framed}
-use Rattle.model.specs.Sending.{lastOpened, othersMask, fewest}
 use Rattle.model.specs.Calls as C
 use Rattle.model.specs.Calls.{isAccepted, roomFor}
 use Rattle.model.specs.Pointing.{pointerGood, pointerEvents, pointerNeed, pointerRefused, pointerTaken, pointerCall, pointerBuffer}
-use Rattle.model.proofs.Ranks.{eqb-self}
-use Rattle.model.proofs.Emulated.{emulated-self}
 use Rattle.common.specs.declared.Verdict.{Verdict}
 use Rattle.common.specs.Seen.{verdictFrom, verdictNumber}
 use Rattle.common.proofs.Back.{verdict-seen}
 use Rattle.panel.specs.declared.Slot.{Slot}
 use Rattle.panel.specs.declared.Setup.{Setup}
 use Rattle.panel.specs.Seen.{tableOf, panelSeen}
-use Rattle.records.proofs.Over.{lay-nil, lay-lay, lay-length}
-use Rattle.plan.specs.declared.Planned.{Planned}
 use Rattle.plan.specs.Walk.{Ready, Given}
-use Rattle.pointer.specs.declared.Pointer.{Pointer}
-use Rattle.pointer.specs.Seen.{pointerOf}
-use Rattle.pointer.specs.Moved.{MovesBy}
-use Rattle.send.specs.declared.Reached.{Reached}
-use Rattle.send.specs.Sent.{bytesSent, sentBy, Reaches}
-use Rattle.send.specs.Told.{touchBytes, endBytes}
 use Rattle.writer.specs.declared.WriterState.{WriterState}
 use Rattle.writer.specs.declared.Written.{Written}
-use Rattle.writer.specs.Seen.{seen, writtenFrom, notWrittenBy, writtenBy, lastOf, ownOf, takenBy}
+use Rattle.writer.specs.Seen.{seen, writtenFrom, notWrittenBy, writtenBy}
 use Rattle.writer.proofs.States.{good-setup, good-slots, good-counter}
 use Rattle.writer.proofs.Outcome.{judged, answer-by, buffer-by, refusal-is}
-use Rattle.writer.proofs.Accepted.{PlannedFrame, Known, fits-slots, fits-end, sent}
 use Rattle.lent.specs.Lent.{tableSize, tableIn}
 use Rattle.lent.proofs.Tables.{slots-part, slots-length}
 use Rattle.lent_plan.specs.declared.Plan.{Plan}
 use Rattle.lent_plan.specs.InPlace.{PlansIn}
 use Rattle.lent_writer.specs.Layout.{stateSize, tableAt}
 use Rattle.lent_writer.specs.Seen.{formed, unpacked, packed, Settles, WritesFrame}
-use Rattle.lent_writer.specs.InPlace.{Off, Loud, tablePart, sentBytes, Sends}
+use Rattle.lent_writer.specs.InPlace.{Loud, tablePart}
 use Rattle.lent_writer.proofs.Accepts.{held-frame}
 use Rattle.lent_writer.proofs.Told.{frame-settled}
 
@@ -58,9 +46,6 @@ part-size b e = length-take-le tableSize (drop tableAt b) (omega (arith, length-
 
 pub table-full : (b : List ℕ) → length (unpacked b .table) ≡ records
 table-full b = slots-length records b tableAt
-
-pub off-is : (b : List ℕ) → Off b → unpacked b .pointer ≡ false
-off-is b o = ap (λ v. eqb v 1) (o .off)
 
 -- ---- what is told
 
@@ -108,7 +93,7 @@ ready-as b f from l u k t eu ek et =
     let s = unpacked b in
     let g = l .good in
     let given : Given (s .setup) (s .table) (s .counter) f = record { setup = good-setup s g; slots = good-slots s g (table-full b); counts = good-counter s g; size = l .size } in
-    let ready : Ready (s .setup) (s .table) (s .counter) f from = record { given = given; inside = l .first .inside; quiet = l .first .before } in
+    let ready : Ready (s .setup) (s .table) (s .counter) f from = record { given = given; inside = l .first .inside; quiet = λ i h. l .first .quiet i (omega arith) h } in
     subst (λ u. Ready u t k f from) (sym eu) (subst (λ k. Ready (s .setup) t k f from) (sym ek) (subst (λ t. Ready (s .setup) t (s .counter) f from) (sym et) ready))
 
 pub plans-are : (b : List ℕ) (f : List ℤ) (u : Setup) (k : ℕ) (t : List Slot) (r : Plan) (new : List Slot) → u ≡ unpacked b .setup → k ≡ unpacked b .counter → t ≡ unpacked b .table
@@ -121,62 +106,8 @@ plans-are b f u k t r new eu ek et h =
     (subst (λ k. PlansIn (valuesGood (panelSeen u) f) (u .n) (s .table) k (framed k (rowsFrom perSlot (u .n) f 0) (tableOf (s .table))) r new) ek
     (subst (λ t. PlansIn (valuesGood (panelSeen u) f) (u .n) t k (framed k (rowsFrom perSlot (u .n) f 0) (tableOf t)) r new) et h))
 
--- ---- what is known once events are counted
-
-pub known-off : (b : List ℕ) (o : Off b) (f : List ℤ) (p : Planned) (others events : ℕ) → (let s = unpacked b in PlannedFrame s f p → others ≡ othersMask (s .current .0) (tableOf (s .table)) (tableOf (p .table))
-    → events ≡ fewest (s .current .0) (tableOf (s .table)) (tableOf (p .table)) → Known s f p (lastOf s) others events)
-known-off b o f p others events k eo ee =
-    let s = unpacked b in
-    let none = ap length (emulated-self (pointerOf (s .told))) in
-    record {
-      frame = k;
-      moves = subst (λ v. MovesBy v (s .table) (p .table) (s .ranks) (s .told) (lastOf s)) (sym (off-is b o)) refl;
-      opened = eo;
-      count = omega (arith, ee, none);
-    }
-
 -- ---- sent
 
--- A display that was told nothing new is told nothing.
-touch-none : (q : Pointer) → touchBytes q q ≡ []
-touch-none q = rw (eqb-self (q .touch))
-
-end-is : (q : Pointer) → endBytes q q ≡ recordBytes 0 0 0
-end-is q = rw (eqb-self (q .tool), eqb-self (q .x), eqb-self (q .y))
-
-module _ {s : WriterState} {f : List ℤ} {p : Planned} {others events : ℕ} (k : Known s f p (lastOf s) others events) (at : ℕ) (buf : List ℕ)
-    (roomy : roomFor (8 * events) at (length buf) ≡ true) (n : events ≡ 0 → ⊥) where
-  abbrev slots : List ℕ
-  slots = bytesSent (sentBy (s .table) (p .table) others (s .current .0))
-
-  abbrev reached : ℕ → Reached
-  reached last = record { end = at + length slots; last = record { 0 = last } }
-
-  from-is : at ≡ at + length (touchBytes (s .told) (s .told))
-  from-is = omega (arith, ap length (touch-none (s .told)))
-
-  first-is : buf ≡ lay at (touchBytes (s .told) (s .told)) buf
-  first-is = sym (ap (λ l. lay at l buf) (touch-none (s .told)) ∙ lay-nil at buf)
-
-  inside : at + length slots ≤ length buf
-  inside = fits-slots k at buf roomy n at buf from-is first-is
-
-  reaches : (last : ℕ) → last ≡ lastOpened (s .current .0) (sentBy (s .table) (p .table) others (s .current .0))
-      → Reaches at (s .table) (p .table) others (s .current .0) buf (reached last) (lay at slots buf)
-  reaches last e = record { ends = refl; last = e; bytes = refl }
-
-  pub room-is : at + length (sentBytes (s .table) (p .table) others (s .current .0)) ≤ length buf
-  room-is =
-      let all = fits-end k at buf roomy n at buf from-is first-is (reached _) (lay at slots buf) (reaches _ refl) in
-      omega (arith, all, ap length (end-is (s .told)), length-append slots (recordBytes 0 0 0), lay-length at slots buf inside)
-
-  pub sent-is : (last : ℕ) (buf′ : List ℕ) → Sends at (s .table) (p .table) others (s .current .0) buf last buf′
-      → (takenBy (p .table) (lastOf s) (ownOf (s .setup) (record { 0 = last }) (p .counter) (s .pointer)) events (p .changes .slots) ≡ writtenFrom (pointerCall base (seen s) f at (length buf)))
-      × (buf′ ≡ pointerBuffer base (seen s) f at buf)
-  sent-is last buf′ h =
-      sent k at buf roomy n at buf from-is first-is (reached last) (lay at slots buf) (reaches last (h .last)) buf′
-      (h .bytes ∙ sym (lay-lay at slots (recordBytes 0 0 0) buf inside) ∙ ap (λ l. lay (at + length slots) l (lay at slots buf)) (sym (end-is (s .told))))
-
--- Its slot last written is one that bytes can hold.
+-- The slot last written is one that bytes can hold.
 pub last-small : (s : WriterState) (f : List ℤ) (at : ℕ) (buf : List ℕ) (w : Written) → w ≡ writtenFrom (pointerCall base (seen s) f at (length buf)) → eqb (verdictNumber (w .verdict)) 0 ≡ true → w .state .current .0 < 2 ^ 32
 last-small s f at buf w e a = held-frame s f at buf w e a .1

@@ -1,6 +1,6 @@
 // The writer over state bytes that a host lends, changed in place: a fresh state, a frame, and a type A frame of an anonymous panel.
 ghost use mathlib.Core.Path.{_≡_};
-ghost use mathlib.Core.Bool.{true, _&&_};
+ghost use mathlib.Core.Bool.{_&&_};
 ghost use mathlib.Core.List.{[], _∷_};
 ghost use Prim.Native.Nat.{_+_, _<_, _≤_, _^_};
 ghost use lib.ListN.{length};
@@ -8,19 +8,23 @@ ghost use Rattle.model.specs.Panel.{base, records};
 ghost use Rattle.model.specs.Records.{lay, join16};
 ghost use Rattle.model.specs.Calls.{roomFor};
 ghost use Rattle.model.specs.Pointer.{unmoved, eqPointer};
-ghost use Rattle.model.specs.Pointing.{zeros as allZeros, pointerGood};
-ghost use Rattle.pointer.specs.Seen.{pointerOf};
-ghost use Rattle.writer.specs.Seen.{seen};
+ghost use Rattle.model.specs.Pointing.{zeros as allZeros, goodPointing, pointerGood};
+ghost use Rattle.panel.specs.Seen.{tableOf, panelSeen};
+ghost use Rattle.pointer.specs.Seen.{pointerOf, pointingOf};
+ghost use Rattle.pointer.specs.Moved.{Unused};
+ghost use Rattle.writer.specs.Seen.{seen, lastOf};
 ghost use Rattle.lent.specs.Lent.{tableSize, tableIn};
 ghost use Rattle.lent_writer.specs.Layout.{stateSize, setupAt, ranksAt};
 ghost use Rattle.lent_writer.specs.Seen.{formed as formedIn, toldIn, ranksIn, unpacked as unpackedIn, flag as flagOf, headBytes, numberBytes, packed, Held, Settles, WritesFrame, WritesAnonymous, setupGiven, Freshens};
-ghost use Rattle.lent_writer.specs.InPlace.{Off, Loud, sentBytes, Sends, changedTo, Stores};
+ghost use Rattle.lent_writer.specs.InPlace.{InForm, Loud, MovesOn, MovedOn, ToTell, ToldBy, sentBytes, Sends, changedTo, Stores, movedIn};
 use common::SlotNumber;
 use common::TrackingId;
 use panel::PER_SLOT;
 use panel::RECORDS;
 use panel::Setup;
+use pointer::Moved;
 use pointer::Pointer;
+use tally::Changed;
 use writer::WriterState;
 use writer::Written;
 
@@ -252,22 +256,7 @@ fn unsent(answer: &mut [u64; 3], number: u32, need: usize) -> u32
     number
 }
 
-fn by_value(
-    state: &mut [u8],
-    frame: &[i32],
-    buf: &mut [u8],
-    at: usize,
-    answer: &mut [u64; 3],
-) -> u32
-    requires { ⌜ formedIn (now state) ≡ true ⌝ }
-    ensures { λ r. ⌜ WritesFrame (now (state .entry)) (now (frame .entry)) at (now (buf .entry)) r (now (state .exit)) (now (answer .exit)) (now (buf .exit)) ⌝ }
-{
-    let s = unpacked(state);
-    let w = writer::write(s, frame, buf, at);
-    settle(state, w, answer)
-}
-
-// ---- the way in place, where the option is off
+// ---- a frame, in place
 
 // All are looked at, found or not, as in `plan::absent`.
 fn all_zero(ranks: &[u8]) -> bool
@@ -292,8 +281,19 @@ fn untold(b: &[u8]) -> bool
     all_zero(&b[RANKS..SIZE]) & none
 }
 
+// Ranks and the numbers that were told, beside a table whose records past its slots were never used.
+fn pointing_ok(b: &[u8], setup: Setup) -> bool
+    requires { ⌜ (length (now b) ≡ stateSize) × Unused (setup .n) (unpackedIn (now b) .table) ⌝ }
+    ensures { λ r. ⌜ r ≡ goodPointing (unpackedIn (now (b .entry)) .pointer) (panelSeen setup) (tableOf (unpackedIn (now (b .entry)) .table)) (pointingOf (unpackedIn (now (b .entry)) .ranks) (unpackedIn (now (b .entry)) .told)) ⌝ }
+{
+    if b[OPTION] == 1 {
+        return lent_pointer::apt(setup, &b[TABLE..RANKS], &b[RANKS..SIZE], told_at(b));
+    }
+    untold(b)
+}
+
 fn judged(b: &[u8]) -> bool
-    requires { ⌜ Off (now b) ⌝ }
+    requires { ⌜ InForm (now b) ⌝ }
     ensures { λ r. ⌜ r ≡ pointerGood base (seen (unpackedIn (now (b .entry)))) ⌝ }
 {
     let setup = lent::setup_at(b, SETUP);
@@ -309,7 +309,7 @@ fn judged(b: &[u8]) -> bool
     if TrackingId::COUNT <= records::word_at(b, COUNTER) {
         return false;
     }
-    untold(b)
+    pointing_ok(b, setup)
 }
 
 // Whether so many bytes have room in a buffer of a size, from a position on.
@@ -322,21 +322,68 @@ fn has_room(size: usize, at: usize, need: usize) -> bool
     need <= size - at
 }
 
-// The changed slots' events and the report; the slot last written.
-fn send_all(
-    b: &mut [u8],
-    at: usize,
-    old: &[u8],
-    new: &[u8],
-    others: u32,
-    current: SlotNumber,
-) -> SlotNumber
-    requires { ⌜ (current .0 < records) × (length (now old) ≡ tableSize) × (length (now new) ≡ tableSize) × (at + length (sentBytes (tableIn (now old)) (tableIn (now new)) others (current .0)) ≤ length (now b)) ⌝ }
-    ensures { λ r. ⌜ Sends at (tableIn (now (old .entry))) (tableIn (now (new .entry))) others (current .0) (now (b .entry)) (r .0) (now (b .exit)) ⌝ }
+// The ranks, and what the display was told last.
+fn last_of(b: &[u8]) -> Moved
+    requires { ⌜ length (now b) ≡ stateSize ⌝ }
+    ensures { λ r. ⌜ r ≡ lastOf (unpackedIn (now (b .entry))) ⌝ }
 {
-    let sent = lent_send::send_slots(b, at, old, new, others, current);
-    let end = sent.end;
-    records::put(&mut b[end..], records::SYN, records::REPORT, 0);
+    let ranks = ranks_of(&b[RANKS..SIZE]);
+    let told = told_at(b);
+    Moved { ranks, told }
+}
+
+// The same after a frame that makes the table `new`; with the option off nothing moves.
+fn moved_on(b: &[u8], new: &[u8], n: usize, slots: u32) -> Moved
+    requires { ⌜ (length (now b) ≡ stateSize) × (length (now new) ≡ tableSize) × MovesOn (now b) (now new) n slots ⌝ }
+    ensures { λ r. ⌜ MovedOn (now (b .entry)) (now (new .entry)) r ⌝ }
+{
+    let last = last_of(b);
+    if b[OPTION] == 1 {
+        return lent_pointer::moves(n, &b[TABLE..RANKS], new, slots, last);
+    }
+    last
+}
+
+// What a frame sends besides the numbers of its tables: ranks and display after it, what the display was told before it, the current slot, the slots that are opened, and how many events there are.
+struct Telling {
+    moved: Moved,
+    told: Pointer,
+    current: SlotNumber,
+    others: u32,
+    events: usize,
+}
+
+fn counted(b: &[u8], new: &[u8], n: usize, c: Changed) -> Telling
+    requires { ⌜ ToTell (now b) (now new) n c ⌝ }
+    ensures { λ r. ⌜ ToldBy (now (b .entry)) (now (new .entry)) c r ⌝ }
+{
+    let moved = moved_on(b, new, n, c.slots);
+    let told = told_at(b);
+    let tell = moved.told;
+    let current = SlotNumber(wide(records::word_at(b, CURRENT)));
+    let others = tally::without_current(c.slots, current);
+    let shown = pointer::emulated(b[OPTION] == 1, told, tell);
+    Telling {
+        moved,
+        told,
+        current,
+        others,
+        events: tally::event_count(c.numbers, others) + shown,
+    }
+}
+
+// BTN_TOUCH, the changed slots' events, what else the display is told, and the report; the slot last written.
+fn send_all(b: &mut [u8], at: usize, old: &[u8], new: &[u8], s: Telling) -> SlotNumber
+    requires { ⌜ (s .current .0 < records) × (length (now old) ≡ tableSize) × (length (now new) ≡ tableSize) × (at + length (sentBytes (tableIn (now old)) (tableIn (now new)) s) ≤ length (now b)) ⌝ }
+    ensures { λ r. ⌜ Sends at (tableIn (now (old .entry))) (tableIn (now (new .entry))) s (now (b .entry)) (r .0) (now (b .exit)) ⌝ }
+{
+    let moved = s.moved;
+    let told = s.told;
+    let tell = moved.told;
+    let current = s.current;
+    let start = send::send_touch(b, at, told, tell);
+    let sent = lent_send::send_slots(b, start, old, new, s.others, current);
+    send::send_end(b, sent.end, told, tell);
     let last = sent.last;
     last
 }
@@ -349,6 +396,22 @@ fn store(b: &mut [u8], new: &[u8], slots: u32, last: SlotNumber, counter: u32)
     lent_send::keep(&mut b[TABLE..RANKS], new, slots);
     lent::put_word(b, CURRENT, last.0 as u32);
     lent::put_word(b, COUNTER, counter);
+}
+
+// The ranks, and what the display is told now; with the option off they stay as they are.
+fn store_moved(b: &mut [u8], m: Moved)
+    requires { ⌜ length (now b) ≡ stateSize ⌝ }
+    ensures { λ _. ⌜ now (b .exit) ≡ movedIn m (now (b .entry)) ⌝ }
+{
+    if b[OPTION] != 1 {
+        return;
+    }
+    let told = m.told;
+    let ranks = m.ranks;
+    put_head(b, true, told);
+    lent::put_word(b, X, told.x);
+    lent::put_word(b, Y, told.y);
+    put_ranks(b, ranks);
 }
 
 // A frame whose first loud row is that of slot `from`.
@@ -371,9 +434,8 @@ fn send_frame(
         return unsent(answer, VALUE, 0);
     }
     let c = p.changes;
-    let current = SlotNumber(wide(records::word_at(state, CURRENT)));
-    let others = tally::without_current(c.slots, current);
-    let events = tally::event_count(c.numbers, others);
+    let s = counted(state, &new, setup.n, c);
+    let events = s.events;
     let need = 8 * events;
     if !has_room(buf.len(), at, need) {
         return unsent(answer, NO_ROOM, need);
@@ -381,8 +443,10 @@ fn send_frame(
     if events == 0 {
         return unsent(answer, ACCEPTED, 0);
     }
-    let last = send_all(buf, at, &state[TABLE..RANKS], &new, others, current);
+    let moved = s.moved;
+    let last = send_all(buf, at, &state[TABLE..RANKS], &new, s);
     store(state, &new, c.slots, last, p.counter);
+    store_moved(state, moved);
     *answer = [events as u64, 0, c.slots as u64];
     ACCEPTED
 }
@@ -394,7 +458,7 @@ fn in_place(
     at: usize,
     answer: &mut [u64; 3],
 ) -> u32
-    requires { ⌜ Off (now state) ⌝ }
+    requires { ⌜ InForm (now state) ⌝ }
     ensures { λ r. ⌜ WritesFrame (now (state .entry)) (now (frame .entry)) at (now (buf .entry)) r (now (state .exit)) (now (answer .exit)) (now (buf .exit)) ⌝ }
 {
     if !judged(state) {
@@ -404,7 +468,7 @@ fn in_place(
     if frame.len() != PER_SLOT * setup.n {
         return unsent(answer, FRAME, 0);
     }
-    let from = lent_table::first_loud(setup.n, &state[TABLE..RANKS], frame);
+    let from = lent_table::next_loud(setup.n, &state[TABLE..RANKS], frame, 0);
     if from != setup.n {
         return send_frame(state, frame, from, buf, at, answer);
     }
@@ -448,9 +512,6 @@ pub fn write(
 {
     if !formed(state) {
         return unsent(answer, STATE, 0);
-    }
-    if state[OPTION] == 1 {
-        return by_value(state, frame, buf, at, answer);
     }
     in_place(state, frame, buf, at, answer)
 }

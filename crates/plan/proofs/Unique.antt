@@ -15,17 +15,20 @@ use Rattle.panel.specs.declared.Slot.{Slot}
 use Rattle.panel.specs.Seen.{tableOf, tableFrom, panelSeen}
 use Rattle.panel.proofs.Back.{table-back}
 use Rattle.plan.specs.declared.Planned.{Planned}
-use Rattle.plan.specs.Quiet.{FirstLoud}
+use Rattle.plan.specs.Quiet.{NextLoud}
 use Rattle.plan.specs.Walk.{PlansBy}
 use Rattle.plan.proofs.first_loud.Reads as first-loud
 use Rattle.plan.proofs.plan_frame.Reads as plan-frame
 
--- One first loud row is not before another.
-not-before : (n : ℕ) (t : List Slot) (frame : List ℤ) (r q : ℕ) → FirstLoud n t frame r → FirstLoud n t frame q → r < q → ⊥
-not-before n t frame r q e g l = false≢true (sym (e .loud (omega (arith, l, g .inside))) ∙ g .before r l .is)
+-- One next loud row is not before another.
+not-before : (from n : ℕ) (t : List Slot) (frame : List ℤ) (r q : ℕ) → NextLoud from n t frame r → NextLoud from n t frame q → r < q → ⊥
+not-before from n t frame r q e g l = false≢true (sym (e .loud (omega (arith, l, g .inside))) ∙ g .quiet r (e .after) l .is)
+
+pub next-one : (from n : ℕ) (t : List Slot) (frame : List ℤ) (r q : ℕ) → NextLoud from n t frame r → NextLoud from n t frame q → r ≡ q
+next-one from n t frame r q e g = omega (arith, not-before from n t frame r q e g, not-before from n t frame q r g e)
 
 pub first-loud-one : OneAnswer first-loud.Learnt
-first-loud-one κs a r q s t e g = omega (arith, not-before _ _ _ r q e g, not-before _ _ _ q r g e)
+first-loud-one κs a r q s t e g = next-one _ _ _ _ r q e g
 
 plans-one : (v : Bool) (n : ℕ) (old : List Slot) (k : ℕ) (p : F.Planned) (r q : Planned) → PlansBy v n old k p r → PlansBy v n old k p q → r ≡ q
 plans-one true n old k p r q e g =

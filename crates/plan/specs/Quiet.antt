@@ -38,8 +38,13 @@ pub record QuietAt (frame : List ℤ) (t : List Slot) (s : ℕ) : Type 0 where
   pub is : quietAt frame t s ≡ true
   pub fits : Of32 (numbersFrom perSlot frame (perSlot * s))
 
--- r is the first of n slots whose row is not quiet, or n where all are.
-pub record FirstLoud (n : ℕ) (t : List Slot) (frame : List ℤ) (r : ℕ) : Type 0 where
+-- r is the first of n slots, from the slot `from` on, whose row is not quiet, or n where all are.
+pub record NextLoud (from n : ℕ) (t : List Slot) (frame : List ℤ) (r : ℕ) : Type 0 where
+  pub after : from ≤ r
   pub inside : r ≤ n
-  pub before : (s : ℕ) → s < r → QuietAt frame t s
+  pub quiet : (s : ℕ) → from ≤ s → s < r → QuietAt frame t s
   pub loud : r < n → quietAt frame t r ≡ false
+
+-- The first of all.
+abbrev pub FirstLoud : ℕ → List Slot → List ℤ → ℕ → Type 0
+FirstLoud n t frame r = NextLoud 0 n t frame r

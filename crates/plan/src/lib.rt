@@ -195,7 +195,10 @@ pub fn quiet(was: Slot, r: Row) -> bool
     if common::same(id.0, TrackingId::UNUSED) {
         return common::same(r.first, 0);
     }
-    common::same(r.first, 1) & ((was.pressure != 0) & numbers_same(was, r))
+    if !common::same(r.first, 1) {
+        return false;
+    }
+    (was.pressure != 0) & numbers_same(was, r)
 }
 
 // The first slot whose row does not leave it as it is, or n. Most frames are quiet, and then nothing else is asked.

@@ -7,6 +7,7 @@
 -- Fates: what becomes of each record, by the ids before a frame and after it.
 -- Kept: ranks stay while every id does.
 -- Covered: whether every id stays, by the bits of the changed slots.
+-- Onward: what moves, by the ids taken out of two tables.
 -- Unique: each contract of a function that other crates call leaves one answer.
 -- Tops: live ranks that are marked, and the test for gaps.
 pub mod Turns
@@ -17,4 +18,5 @@ pub mod Numbers
 pub mod Fates
 pub mod Kept
 pub mod Covered
+pub mod Onward
 pub mod Unique

@@ -11,9 +11,41 @@ use Rattle.pointer.specs.declared.Pointer.{Pointer}
 use Rattle.pointer.specs.declared.Moved.{Moved}
 use Rattle.pointer.specs.Seen.{pointerOf, pointerFrom}
 use Rattle.pointer.specs.Moved.{MovesBy}
+use Rattle.pointer.proofs.live_count.Reads as live-count
+use Rattle.pointer.proofs.ranks_good.Reads as ranks-good
+use Rattle.pointer.proofs.oldest_slot.Reads as oldest-slot
+use Rattle.pointer.proofs.ranks_after.Reads as ranks-after
+use Rattle.pointer.proofs.ids_stay.Reads as ids-stay
+use Rattle.pointer.proofs.pointed.Reads as pointed-by
+use Rattle.pointer.proofs.placed.Reads as placed
+use Rattle.pointer.proofs.pointers_same.Reads as pointers-same
 use Rattle.pointer.proofs.pointing_ok.Reads as pointing-ok
 use Rattle.pointer.proofs.move_on.Reads as move-on
 use Rattle.pointer.proofs.emulated.Reads as emulated
+
+pub live-count-one : OneAnswer live-count.Learnt
+live-count-one κs a r q s t e g = e .0 ∙ sym (g .0)
+
+pub ranks-good-one : OneAnswer ranks-good.Learnt
+ranks-good-one κs a r q s t e g = e ∙ sym g
+
+pub oldest-slot-one : OneAnswer oldest-slot.Learnt
+oldest-slot-one κs a r q s t e g = e .1 ∙ sym (g .1)
+
+pub ranks-after-one : OneAnswer ranks-after.Learnt
+ranks-after-one κs a r q s t e g = e ∙ sym g
+
+pub ids-stay-one : OneAnswer ids-stay.Learnt
+ids-stay-one κs a r q s t e g = e ∙ sym g
+
+pub pointed-one : OneAnswer pointed-by.Learnt
+pointed-one κs a r q s t e g = ap pointerFrom (e ∙ sym g)
+
+pub placed-one : OneAnswer placed.Learnt
+placed-one κs a r q s t e g = ap pointerFrom (e ∙ sym g)
+
+pub pointers-same-one : OneAnswer pointers-same.Learnt
+pointers-same-one κs a r q s t e g = e ∙ sym g
 
 pub pointing-ok-one : OneAnswer pointing-ok.Learnt
 pointing-ok-one κs a r q s t e g = e ∙ sym g

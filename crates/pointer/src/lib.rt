@@ -54,7 +54,7 @@ fn lives(id: i32) -> bool
     !common::same(id, TrackingId::UNUSED)
 }
 
-fn live_count(ids: &[i32]) -> usize
+pub fn live_count(ids: &[i32]) -> usize
     requires { ⌜ length (now ids) ≡ records ⌝ }
     ensures { λ r. ⌜ (r ≡ liveCount (now (ids .entry))) × (r ≤ records) ⌝ }
 {
@@ -112,7 +112,7 @@ fn zero_from(n: usize, ranks: &[u8]) -> bool
 }
 
 // Whether ranks are as they should be beside these ids: from 0 without gaps where a contact is live, 0 elsewhere.
-fn ranks_good(n: usize, ids: &[i32], ranks: &[u8]) -> bool
+pub fn ranks_good(n: usize, ids: &[i32], ranks: &[u8]) -> bool
     requires { ⌜ Idle n (now ids) × (length (now ranks) ≡ records) ⌝ }
     ensures { λ r. ⌜ r ≡ goodRanks (now (ids .entry)) (now (ranks .entry)) ⌝ }
 {
@@ -142,7 +142,7 @@ fn ranks_good(n: usize, ids: &[i32], ranks: &[u8]) -> bool
 }
 
 // The slot whose contact began first, the lowest of several; 0 where none is live.
-fn oldest_slot(ids: &[i32], ranks: &[u8]) -> usize
+pub fn oldest_slot(ids: &[i32], ranks: &[u8]) -> usize
     requires { ⌜ (length (now ids) ≡ records) × (length (now ranks) ≡ records) ⌝ }
     ensures { λ r. ⌜ (r < records) × (r ≡ oldestOr0 (now (ids .entry)) (now (ranks .entry))) ⌝ }
 {
@@ -219,7 +219,7 @@ fn age(was: i32, is: i32, rank: u8) -> usize
 }
 
 // The ranks after a frame, by the ids before it and after it: those that go on close their gaps, and all that begin come after them.
-fn ranks_after(old: &[i32], new: &[i32], ranks: &[u8]) -> [u8; RECORDS]
+pub fn ranks_after(old: &[i32], new: &[i32], ranks: &[u8]) -> [u8; RECORDS]
     requires { ⌜ Told (now old) (now new) (now ranks) × T (goodRanks (now old) (now ranks)) ⌝ }
     ensures { λ r. ⌜ r ≡ ranksAfter (fatesBy (now (old .entry)) (now (new .entry))) (now (ranks .entry)) ⌝ }
 {
@@ -236,7 +236,7 @@ fn ranks_after(old: &[i32], new: &[i32], ranks: &[u8]) -> [u8; RECORDS]
 }
 
 // Whether every id stays, where `slots` tells the slots that may have changed: from one of them to the next, for a frame changes few.
-fn ids_stay(old: &[i32], new: &[i32], slots: u32) -> bool
+pub fn ids_stay(old: &[i32], new: &[i32], slots: u32) -> bool
     requires { ⌜ (length (now old) ≡ records) × (length (now new) ≡ records) × Covers slots (now old) (now new) ⌝ }
     ensures { λ r. ⌜ r ≡ eqSlot (now (old .entry)) (now (new .entry)) ⌝ }
 {
@@ -286,7 +286,7 @@ fn tool_of(live: usize) -> u16
 }
 
 // What a display should see of so many live contacts, of which this is the oldest. While no contact is live X and Y keep still.
-fn pointed(live: usize, oldest: Slot, told: Pointer) -> Pointer
+pub fn pointed(live: usize, oldest: Slot, told: Pointer) -> Pointer
     ensures { λ r. ⌜ pointerOf r ≡ shownOf live oldest (pointerOf told) ⌝ }
 {
     if live == 0 {
@@ -306,7 +306,7 @@ fn pointed(live: usize, oldest: Slot, told: Pointer) -> Pointer
 }
 
 // The same where no id changes: touch and tool stay as they were told, and X and Y follow the oldest contact.
-fn placed(oldest: Slot, told: Pointer) -> Pointer
+pub fn placed(oldest: Slot, told: Pointer) -> Pointer
     ensures { λ r. ⌜ pointerOf r ≡ placedAt oldest (pointerOf told) ⌝ }
 {
     if told.touch == 0 {
@@ -320,7 +320,7 @@ fn placed(oldest: Slot, told: Pointer) -> Pointer
     }
 }
 
-fn pointers_same(a: Pointer, b: Pointer) -> bool
+pub fn pointers_same(a: Pointer, b: Pointer) -> bool
     ensures { λ r. ⌜ r ≡ eqPointer (pointerOf a) (pointerOf b) ⌝ }
 {
     (a.touch == b.touch) & (a.tool == b.tool) & (a.x == b.x) & (a.y == b.y)

@@ -247,6 +247,17 @@ module _ {s : WriterState} {f : List ℤ} {p : Planned} {m : Moved} {others even
           let size = sym (ap length bytes-are) ∙ bytes-length (pointerEvents base (seen s) f) in
           omega (arith, inside, enough, size, count-is, length-append (touch ++ slots) end, length-append touch slots)
 
+      -- All of it as one run of bytes: it has room, and once it is laid the frame is written.
+      pub room-whole : at + length ((touch ++ slots) ++ end) ≤ length buf
+      room-whole = omega (arith, room, length-append (touch ++ slots) end, length-append touch slots)
+
+      pub sent-whole : (last : ℕ) (b : List ℕ) → last ≡ lastOpened current (sentBy (s .table) (p .table) others current) → b ≡ lay at ((touch ++ slots) ++ end) buf
+          → Promised (takenBy (p .table) m (own last) events changed) b
+      sent-whole last b el eb =
+          let opened = last-is (s .table) (p .table) (k .frame .held) (k .frame .made) current below others (k .opened) in
+          written last b (el ∙ opened) (eb ∙ ap (λ bs. lay at bs buf) (sym bytes-are))
+
+      -- Part by part.
       pub fits-touch : at + length touch ≤ length buf
       fits-touch = omega (arith, room)
 
@@ -269,8 +280,7 @@ module _ {s : WriterState} {f : List ℤ} {p : Planned} {m : Moved} {others even
 
           pub sent : (b₃ : List ℕ) → b₃ ≡ lay (r .end) end b₂ → Promised (takenBy (p .table) m (own (r .last .0)) events changed) b₃
           sent b₃ e₃ =
-              let last = last-is (s .table) (p .table) (k .frame .held) (k .frame .made) current below others (k .opened) in
               let two : b₂ ≡ lay at (touch ++ slots) buf = h .bytes ∙ ap₂ (λ x b. lay x slots b) ef e₁ ∙ lay-lay at touch slots buf fits-touch in
               let ends : r .end ≡ at + length (touch ++ slots) = omega (arith, h .ends, length-append touch slots) in
               let three = e₃ ∙ ap₂ (λ x b. lay x end b) ends two ∙ lay-lay at (touch ++ slots) end buf (omega (arith, room, length-append touch slots)) in
-              written (r .last .0) b₃ (h .last ∙ last) (three ∙ ap (λ bs. lay at bs buf) (sym bytes-are))
+              sent-whole (r .last .0) b₃ (h .last) three

@@ -26,20 +26,21 @@ use Rattle.common.proofs.Apart.{front-holds, met-join}
 use Rattle.common.proofs.Signs.{first-false, first-true}
 use Rattle.panel.specs.declared.Slot.{Slot}
 use Rattle.panel.specs.declared.Setup.{Setup}
-use Rattle.panel.specs.Seen.{rowOf, slotOf, tableOf, axesOf, unused}
+use Rattle.panel.specs.Seen.{slotOf, tableOf, axesOf, unused}
 use Rattle.panel.proofs.Setups.{small}
 use Rattle.panel.proofs.Tables.{good-rest}
 use Rattle.tally.specs.declared.Changed.{Changed}
 use Rattle.tally.specs.Told.{Tells}
 use Rattle.plan.specs.Row.{begun, contactOf, stayed, plainRow}
-use Rattle.plan.specs.Quiet.{quietRow, Of32}
+use Rattle.plan.specs.Quiet.{NextLoud}
 use Rattle.plan.specs.Walk.{rowsGood, planFrom}
 use Rattle.plan.proofs.Turn as Turn
 use Rattle.plan.proofs.Turn.{good-plain, begun-slot, stayed-slot, begun-taken, begun-counter}
 use Rattle.lent.specs.Lent.{tableSize, tableIn}
 use Rattle.lent_plan.specs.InPlace.{PlansIn}
-use Rattle.lent_plan.proofs.Bytes.{table-long}
-use Rattle.lent_plan.proofs.Turned.{Next, rests, tells-on, tells-set, plan-on, plan-steady, plan-rests}
+use Rattle.lent_table.proofs.Read.{full as table-long}
+use Rattle.lent_plan.proofs.Passed.{passed}
+use Rattle.lent_plan.proofs.Turned.{Next, tells-set, plan-on, plan-steady}
 use Rattle.lent_plan.proofs.give_ids.Statement.{statement}
 use Rattle.lent_plan.proofs.give_ids.Tie as tie
 
@@ -73,13 +74,13 @@ gathered l = l .before .before .before .before
 abbrev start : Loop → tie.Start Inv-loop μ-loop
 start l = gathered l .before .before .before
 
--- Where all arms of the loop start: slot s and its row are read, and it is known whether the row is quiet.
+-- Where slot s and its row are read.
 abbrev Row : Type 0
-Row = tie.After-quiet Inv-loop μ-loop
+Row = tie.After-slot-of Inv-loop μ-loop
 
 -- Where the row is read, the turn of the loop that it is in, and the loop's locals before the turn.
 abbrev lent : Row → tie.After-row-at Inv-loop μ-loop
-lent b = b .before .before .before
+lent b = b .before .before
 
 abbrev turn : Row → tie.In-loop Inv-loop μ-loop
 turn b = lent b .before
@@ -92,7 +93,7 @@ abbrev Judged : Type 0
 Judged = tie.After-row-ok Inv-loop μ-loop
 
 abbrev loud : Judged → Row
-loud j = j .before .before
+loud j = j .before
 
 -- Where it is good, and it is known whether a contact begins.
 abbrev Good : Type 0
@@ -123,8 +124,12 @@ named c = landed c .before .before
 abbrev chosen : Begun → tie.After-choose Inv-loop μ-loop
 chosen c = named c .before
 
-abbrev beginning : Begun → tie.Then3 Inv-loop μ-loop
+abbrev beginning : Begun → tie.Then2 Inv-loop μ-loop
 beginning c = chosen c .before .before
+
+-- Where the next loud row is found.
+abbrev went : tie.After-next-loud Inv-loop μ-loop → Begun
+went c = c .before .before
 
 -- Where the given id joins those taken.
 abbrev taking : tie.After-struct-told2 Inv-loop μ-loop → Good
@@ -140,8 +145,11 @@ restored c = c .before .before
 abbrev kept : Stayed → tie.After-stays Inv-loop μ-loop
 kept c = restored c .before
 
-abbrev staying : Stayed → tie.Else3 Inv-loop μ-loop
+abbrev staying : Stayed → tie.Else2 Inv-loop μ-loop
 staying c = kept c .before .before
+
+abbrev went2 : tie.After-next-loud2 Inv-loop μ-loop → Stayed
+went2 c = c .before .before
 
 -- ---- slot s and its row
 
@@ -170,7 +178,7 @@ abbrev kind : Row → ℤ
 kind b = Turn.kind (fr b) (s b)
 
 abbrev was : Row → Slot
-was b = b .before .slot-of .result
+was b = b .slot-of .result
 
 abbrev becomes : Row → Fate
 becomes b = fate (kind b) (was b .id .0)
@@ -204,24 +212,12 @@ at b = record {
   long = table-long (top b .loop .t);
   below = below b;
   tells = known (top b) .tells;
-  is = b .before .slot-of .ensures;
+  is = b .slot-of .ensures;
 }
 
 -- There is a place left among the taken ids.
 placed : (b : Row) → top b .loop .m < length (top b .loop .taken)
 placed b = omega (arith, below b, known (top b) .fewTaken, known (top b) .places, few (top b))
-
--- The row's numbers are of 32 bits.
-fitting : (c : tie.After-row-at Inv-loop μ-loop) → Of32 (rowOf (c .row-at .result))
-fitting c =
-    let r = c .row-at .result in
-    let k : SFits w32 (r .first) = search needs in
-    let x : SFits w32 (r .x) = search needs in
-    let y : SFits w32 (r .y) = search needs in
-    let p : SFits w32 (r .pressure) = search needs in
-    let a : SFits w32 (r .major) = search needs in
-    let i : SFits w32 (r .minor) = search needs in
-    (k, (x, (y, (p, (a, (i, tt))))))
 
 -- Rows that are good up to here are good where this one is and the rest.
 good-here : (b : Row) → rowsGood (u b) (fr b) (start (top b) .args .from .slot) ≡ (goodRow (axesOf (u b)) (row b) && rowsGood (u b) (fr b) (s b + 1))
@@ -236,7 +232,7 @@ row-judged j = j .row-ok .ensures ∙ ap (goodRow (axesOf (u (loud j)))) (lent (
 good-row : (d : Good) → goodRow (axesOf (u (here d))) (row (here d)) ≡ true
 good-row d =
     let j = judged d in
-    sym (row-judged j) ∙ not-false (j .row-ok .result) (d .before .before .if2 .left)
+    sym (row-judged j) ∙ not-false (j .row-ok .result) (d .before .before .if1 .left)
 
 plain : (d : Good) → plainRow (row (here d)) ≡ true
 plain d = good-plain (u (here d)) (row (here d)) (good-row d)
@@ -301,38 +297,9 @@ slot-of-requires c κs =
     let i = c .before .before in
     (omega (arith, i .loop-test .taken, few (i .before)), i .before .loop .inv .0)
 
-quiet-requires : tie.Need-quiet-requires Inv-loop μ-loop
-quiet-requires c κs = search needs
-
-add-s : tie.Need-add-s Inv-loop μ-loop
-add-s c = omega (arith, below (c .before), few (top (c .before)))
-
-loop-less : tie.Need-loop-less Inv-loop μ-loop
-loop-less c = omega (arith, below (c .before))
-
-loop-again : tie.Need-loop-again Inv-loop μ-loop
-loop-again c =
-    let b = c .before in
-    let k = known (top b) in
-    let q = sym (ap (quietRow (was b)) (lent b .row-at .ensures)) ∙ sym (b .quiet .ensures) ∙ c .if1 .taken in
-    let same = rests (at b) (subst Of32 (lent b .row-at .ensures) (fitting (lent b))) q in (
-      top b .loop .inv .0,
-      record {
-        inside = omega (arith, below b);
-        fewTaken = omega (arith, k .fewTaken);
-        counts = k .counts;
-        places = k .places;
-        met = k .met;
-        good = good-on b (same .good);
-        whole = k .whole ∙ plan-rests (at b) (taken b) (top b .loop .k) same;
-        tells = tells-on (at b);
-      },
-    )
-
 row-ok-requires : tie.Need-row-ok-requires Inv-loop μ-loop
 row-ok-requires c κs =
-    let b = c .before in
-    let m = small (u b) (start (top b) .pre .left .given .setup) in
+    let m = small (u c) (start (top c) .pre .left .given .setup) in
     record { x = omega (arith, m .x); y = omega (arith, m .y); pressure = omega (arith, m .pressure); major = omega (arith, m .major); minor = omega (arith, m .minor) }
 
 refused-requires : tie.Need-refused-requires Inv-loop μ-loop
@@ -348,7 +315,7 @@ returns c =
     let j = c .before .before in
     let b = loud j in
     let a = start (top b) .args in
-    let bad = good-here b ∙ first-false _ _ (sym (row-judged j) ∙ not-true (j .row-ok .result) (c .before .if2 .taken)) in
+    let bad = good-here b ∙ first-false _ _ (sym (row-judged j) ∙ not-true (j .row-ok .result) (c .before .if1 .taken)) in
     subst (λ v. PlansIn v (n b) (old b) (a .counter) (planFrom (ids (tableOf (old b))) (a .counter) (n b) (fr b) (tableIn (a .t .now)) (a .from .slot)) (c .refused .result) (t b)) (sym bad) (c .refused .ensures)
 
 begins-requires : tie.Need-begins-requires Inv-loop μ-loop
@@ -403,29 +370,39 @@ add-m c =
 after-requires : tie.Need-after-requires Inv-loop μ-loop
 after-requires c κs = c .before .before .before .before .before .before .before .before .choose .ensures .0
 
-add-s-2 : tie.Need-add-s-2 Inv-loop μ-loop
-add-s-2 c =
-    let b = here (beginning c .before) in
-    omega (arith, below b, few (top b))
+-- Rows that are passed over leave all that is known as it is.
+jump : (b : Row) (taken : List ℤ) (held m : ℕ) (t : List ℕ) (k s : ℕ) (c : Changed) (r : ℕ)
+    → (let f = start (top b) .args .from .slot in Made (u b) (old b) (fr b) f (promised (top b)) taken held m (tableIn t) k s c → NextLoud s (n b) (tableIn t) (fr b) r
+    → Made (u b) (old b) (fr b) f (promised (top b)) taken held m (tableIn t) k r c)
+jump b taken held m t k s c r g x =
+    let a = start (top b) in
+    let p = passed (u b) (old b) (tableIn t) (a .args .counter) (fr b) c (a .pre .left .given) (table-long (a .args .old .now)) (table-long t) (take m taken) k s r x (g .tells) in
+    record {
+      inside = x .inside;
+      fewTaken = omega (arith, g .fewTaken, x .after);
+      counts = g .counts;
+      places = g .places;
+      met = g .met;
+      good = g .good ∙ p .good;
+      whole = g .whole ∙ p .whole;
+      tells = p .tells;
+    }
 
-loop-less-2 : tie.Need-loop-less-2 Inv-loop μ-loop
-loop-less-2 c =
-    let b = here (beginning c .before) in
-    omega (arith, below b)
+-- The slot is made, and its id taken.
+id-is : (c : Begun) → named c .id-of .result .0 ≡ pos (given (here (beginning c .before)))
+id-is c = ap (λ (x : TrackingId). x .0) (named c .id-of .ensures) ∙ ap pos (chosen c .choose .ensures .1)
 
-loop-again-2 : tie.Need-loop-again-2 Inv-loop μ-loop
-loop-again-2 c =
+made-begun : (c : Begun) → (let b = here (beginning c .before) in let g = top b .loop in
+    Made (u b) (old b) (fr b) (start (top b) .args .from .slot) (promised (top b)) (set (g .taken) (g .m) (pos (given b))) (bitOr (g .held) (marked c .mark-of .result)) (g .m + 1) (tableIn (stored c .make .last .0)) (c .after .result) (s b + 1) (stored c .make .result))
+made-begun c =
     let d = beginning c .before in
     let b = here d in
     let g = known (top b) in
     let j = given b in
-    let yes : begun (becomes b) ≡ true = sym (begins-is d) ∙ beginning c .if3 .taken in
-    let id = named c .id-of in
+    let yes : begun (becomes b) ≡ true = sym (begins-is d) ∙ beginning c .if2 .taken in
     let ji : chosen c .choose .result ≡ j = chosen c .choose .ensures .1 in
-    let fi : SFits w32 (id .result .0) = search needs in
-    let v : id .result .0 ≡ pos j = ap (λ (x : TrackingId). x .0) (id .ensures) ∙ ap pos ji in
     let w = landed c .contact .result in
-    let e : w ≡ contactOf (pos j) (row b) = landed c .contact .ensures ∙ ap₂ contactOf v (lent b .row-at .ensures) in
+    let e : w ≡ contactOf (pos j) (row b) = landed c .contact .ensures ∙ ap₂ contactOf (id-is c) (lent b .row-at .ensures) in
     let l = stored c .make .last .0 in
     let put : tableIn l ≡ set (t b) (s b) w = stored c .make .ensures .1 in
     let m = top b .loop .m in
@@ -437,20 +414,43 @@ loop-again-2 c =
     let slot = ap slotOf e ∙ begun-slot (was b) (fr b) (perSlot * s b) j yes (plain d) in
     let bit : marked c .mark-of .result ≡ bitOf (pos j) = marked c .mark-of .ensures ∙ ap (λ x. bitOf (pos x)) ji in
     let met : Met (bitOr (top b .loop .held) (bitOf (pos j))) more = rw last (met-join (top b .loop .held) (taken b) (pos j) (g .met)) in
-    let long : length l ≡ tableSize = search needs in
-    rw (toZ-ofZ w32 (id .result .0) fi, v) (
-      long,
-      record {
-        inside = omega (arith, below b);
-        fewTaken = omega (arith, g .fewTaken);
-        counts = omega (arith, c .after .ensures);
-        places = length-set (top b .loop .taken) m (pos j) ∙ g .places;
-        met = subst (λ x. Met (bitOr (top b .loop .held) x) more) (sym bit) met;
-        good = good-on b (good-row d);
-        whole = g .whole ∙ plan-on (at b) (taken b) (top b .loop .k) w more (c .after .result) slot same count ∙ ap (λ x. planFrom more (c .after .result) (n b) (fr b) x (s b + 1)) (sym put);
-        tells = tells-set (at b) w (tableIn l) put (stored c .make .result) (stored c .make .ensures .0);
-      },
-    )
+    record {
+      inside = omega (arith, below b);
+      fewTaken = omega (arith, g .fewTaken);
+      counts = omega (arith, c .after .ensures);
+      places = length-set (top b .loop .taken) m (pos j) ∙ g .places;
+      met = subst (λ x. Met (bitOr (top b .loop .held) x) more) (sym bit) met;
+      good = good-on b (good-row d);
+      whole = g .whole ∙ plan-on (at b) (taken b) (top b .loop .k) w more (c .after .result) slot same count ∙ ap (λ x. planFrom more (c .after .result) (n b) (fr b) x (s b + 1)) (sym put);
+      tells = tells-set (at b) w (tableIn l) put (stored c .make .result) (stored c .make .ensures .0);
+    }
+
+add-next-loud : tie.Need-add-next-loud Inv-loop μ-loop
+add-next-loud c =
+    let b = here (beginning (c .before) .before) in
+    omega (arith, below b, few (top b))
+
+next-loud-requires : tie.Need-next-loud-requires Inv-loop μ-loop
+next-loud-requires c κs =
+    let b = here (beginning (c .before) .before) in
+    let l = stored (c .before) .make .last .0 in
+    let long : length l ≡ tableSize = omega (arith, top b .loop .inv .0) in
+    (few (top b), long, start (top b) .pre .left .given .size, omega (arith, below b))
+
+loop-less : tie.Need-loop-less Inv-loop μ-loop
+loop-less c =
+    let b = here (beginning (went c) .before) in
+    omega (arith, below b, c .next-loud .ensures .after)
+
+loop-again : tie.Need-loop-again Inv-loop μ-loop
+loop-again c =
+    let g = went c in
+    let b = here (beginning g .before) in
+    let id = named g .id-of .result .0 in
+    let fi : SFits w32 id = search needs in
+    let l = stored g .make .last .0 in
+    let long : length l ≡ tableSize = omega (arith, top b .loop .inv .0) in
+    rw (toZ-ofZ w32 id fi, id-is g) (long, jump b _ _ _ l _ _ _ (c .next-loud .result) (made-begun g) (c .next-loud .ensures))
 
 stays-requires : tie.Need-stays-requires Inv-loop μ-loop
 stays-requires c κs = search needs
@@ -460,40 +460,54 @@ make-requires-2 c κs =
     let b = here (c .before .before .before) in
     (omega (arith, below b, few (top b)), top b .loop .inv .0, known (top b) .tells .before)
 
-add-s-3 : tie.Need-add-s-3 Inv-loop μ-loop
-add-s-3 c =
-    let b = here (staying c .before) in
-    omega (arith, below b, few (top b))
-
-loop-less-3 : tie.Need-loop-less-3 Inv-loop μ-loop
-loop-less-3 c =
-    let b = here (staying c .before) in
-    omega (arith, below b)
-
-loop-again-3 : tie.Need-loop-again-3 Inv-loop μ-loop
-loop-again-3 c =
+-- The slot is made, and no id is given.
+made-stayed : (c : Stayed) → (let b = here (staying c .before) in let g = top b .loop in
+    Made (u b) (old b) (fr b) (start (top b) .args .from .slot) (promised (top b)) (g .taken) (g .held) (g .m) (tableIn (restored c .make2 .last .0)) (g .k) (s b + 1) (restored c .make2 .result))
+made-stayed c =
     let d = staying c .before in
     let b = here d in
     let g = known (top b) in
-    let no : begun (becomes b) ≡ false = sym (begins-is d) ∙ staying c .if3 .left in
+    let no : begun (becomes b) ≡ false = sym (begins-is d) ∙ staying c .if2 .left in
     let w = kept c .stays .result in
     let e : w ≡ stayed (eqZ (kind b) (pos 0)) (was b) (row b) = kept c .stays .ensures ∙ ap (λ g. stayed (eqZ (kindOf g) (pos 0)) (was b) g) (lent b .row-at .ensures) in
     let slot = ap slotOf e ∙ stayed-slot (was b) (fr b) (perSlot * s b) (given b) no (plain d) in
     let l = restored c .make2 .last .0 in
     let put : tableIn l ≡ set (t b) (s b) w = restored c .make2 .ensures .1 in
-    let long : length l ≡ tableSize = search needs in (
-      long,
-      record {
-        inside = omega (arith, below b);
-        fewTaken = omega (arith, g .fewTaken);
-        counts = g .counts;
-        places = g .places;
-        met = g .met;
-        good = good-on b (good-row d);
-        whole = g .whole ∙ plan-steady (at b) (taken b) (top b .loop .k) w slot no ∙ ap (λ x. planFrom (taken b) (top b .loop .k) (n b) (fr b) x (s b + 1)) (sym put);
-        tells = tells-set (at b) w (tableIn l) put (restored c .make2 .result) (restored c .make2 .ensures .0);
-      },
-    )
+    record {
+      inside = omega (arith, below b);
+      fewTaken = omega (arith, g .fewTaken);
+      counts = g .counts;
+      places = g .places;
+      met = g .met;
+      good = good-on b (good-row d);
+      whole = g .whole ∙ plan-steady (at b) (taken b) (top b .loop .k) w slot no ∙ ap (λ x. planFrom (taken b) (top b .loop .k) (n b) (fr b) x (s b + 1)) (sym put);
+      tells = tells-set (at b) w (tableIn l) put (restored c .make2 .result) (restored c .make2 .ensures .0);
+    }
+
+add-next-loud-2 : tie.Need-add-next-loud-2 Inv-loop μ-loop
+add-next-loud-2 c =
+    let b = here (staying (c .before) .before) in
+    omega (arith, below b, few (top b))
+
+next-loud-requires-2 : tie.Need-next-loud-requires-2 Inv-loop μ-loop
+next-loud-requires-2 c κs =
+    let b = here (staying (c .before) .before) in
+    let l = restored (c .before) .make2 .last .0 in
+    let long : length l ≡ tableSize = omega (arith, top b .loop .inv .0) in
+    (few (top b), long, start (top b) .pre .left .given .size, omega (arith, below b))
+
+loop-less-2 : tie.Need-loop-less-2 Inv-loop μ-loop
+loop-less-2 c =
+    let b = here (staying (went2 c) .before) in
+    omega (arith, below b, c .next-loud2 .ensures .after)
+
+loop-again-2 : tie.Need-loop-again-2 Inv-loop μ-loop
+loop-again-2 c =
+    let g = went2 c in
+    let b = here (staying g .before) in
+    let l = restored g .make2 .last .0 in
+    let long : length l ≡ tableSize = omega (arith, top b .loop .inv .0) in
+    (long, jump b _ _ _ l _ _ _ (c .next-loud2 .result) (made-stayed g) (c .next-loud2 .ensures))
 
 same-length-2 : tie.Need-same-length-2 Inv-loop μ-loop
 same-length-2 c =
@@ -543,10 +557,6 @@ give-ids-spec =
     mul-row-at
     row-at-requires
     slot-of-requires
-    quiet-requires
-    add-s
-    loop-less
-    loop-again
     row-ok-requires
     refused-requires
     same-length
@@ -563,13 +573,15 @@ give-ids-spec =
     mark-of-requires
     add-m
     after-requires
-    add-s-2
-    loop-less-2
-    loop-again-2
+    add-next-loud
+    next-loud-requires
+    loop-less
+    loop-again
     stays-requires
     make-requires-2
-    add-s-3
-    loop-less-3
-    loop-again-3
+    add-next-loud-2
+    next-loud-requires-2
+    loop-less-2
+    loop-again-2
     same-length-2
     returns-2)

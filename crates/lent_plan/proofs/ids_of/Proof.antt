@@ -17,7 +17,7 @@ use Rattle.common.proofs.Apart.{more-ids}
 use Rattle.panel.specs.declared.Slot.{Slot}
 use Rattle.panel.specs.Seen.{slotOf, tableOf, blank}
 use Rattle.lent.specs.Lent.{tableIn}
-use Rattle.lent_plan.proofs.Bytes.{table-long}
+use Rattle.lent_table.proofs.Read.{full as table-long}
 use Rattle.lent_plan.proofs.ids_of.Statement.{statement}
 use Rattle.lent_plan.proofs.ids_of.Tie as tie
 

@@ -1,4 +1,4 @@
--- `lent_writer::in_place` answers as the call by value does, over bytes of a state whose option is off. Assumes nothing.
+-- `lent_writer::in_place` answers as the call by value does, over bytes of a state. Assumes nothing.
 use mathlib.Core.Path.{_≡_, refl, sym, ap, subst, _∙_}
 use mathlib.Core.Bool.{Bool, true, false}
 use mathlib.Core.List.{List}
@@ -71,14 +71,14 @@ set-up w = w .before .before
 long : (w : tie.Else2) → length (fr (begin (set-up w))) ≡ perSlot * st (begin (set-up w)) .setup .n
 long w = w .if2 .left ∙ ap (λ n. perSlot * n) (slots-are (set-up w))
 
-abbrev sized-at : tie.After-first-loud → tie.Else2
+abbrev sized-at : tie.After-next-loud → tie.Else2
 sized-at q = q .before .before .before
 
-abbrev all : tie.After-first-loud → tie.Start
+abbrev all : tie.After-next-loud → tie.Start
 all q = begin (set-up (sized-at q))
 
 -- The frame, as `send_frame` is given it.
-loud : (q : tie.After-first-loud) → Loud (bs (all q)) (fr (all q)) (q .first-loud .result)
+loud : (q : tie.After-next-loud) → Loud (bs (all q)) (fr (all q)) (q .next-loud .result)
 loud q =
     let u = set-up (sized-at q) in
     let s = all q in
@@ -86,11 +86,11 @@ loud q =
       bytes = s .pre;
       good = good (judged-at u);
       size = long (sized-at q);
-      first = subst (λ n. FirstLoud n (st s .table) (fr s) (q .first-loud .result)) (slots-are u)
-          (subst (λ t. FirstLoud (u .setup-at .result .n) t (fr s) (q .first-loud .result)) (table-is (bs s) (s .pre .size)) (q .first-loud .ensures));
+      first = subst (λ n. FirstLoud n (st s .table) (fr s) (q .next-loud .result)) (slots-are u)
+          (subst (λ t. FirstLoud (u .setup-at .result .n) t (fr s) (q .next-loud .result)) (table-is (bs s) (s .pre .size)) (q .next-loud .ensures));
     }
 
-abbrev quiet-at : tie.Else3 → tie.After-first-loud
+abbrev quiet-at : tie.Else3 → tie.After-next-loud
 quiet-at n = n .before .before
 
 -- Every row is quiet: the state is handed back, unless the position is past the end.
@@ -102,8 +102,8 @@ rests n =
     let s = all q in
     let l = loud q in
     let u = set-up (sized-at q) in
-    let ready = ready-as (bs s) (fr s) (q .first-loud .result) l (st s .setup) (st s .counter) (st s .table) refl refl refl in
-    let every : (i : ℕ) → i < st s .setup .n → QuietAt (fr s) (st s .table) i = λ i h. l .first .before i (omega (arith, h, n .if3 .left, slots-are u)) in
+    let ready = ready-as (bs s) (fr s) (q .next-loud .result) l (st s .setup) (st s .counter) (st s .table) refl refl refl in
+    let every : (i : ℕ) → i < st s .setup .n → QuietAt (fr s) (st s .table) i = λ i h. l .first .quiet i (omega arith) (omega (arith, h, n .if3 .left, slots-are u)) in
     still (st s) (fr s) (l .good) (ready .given) (table-full (bs s)) every (s .args .at) (s .args .buf .now)
 
 -- ---- the needs
@@ -144,20 +144,20 @@ returns-2 c =
     let z : whole s ≡ false = ne-eqb (length (fr s)) (perSlot * st s .setup .n) (λ e. t .if2 .taken (e ∙ sym (ap (λ n. perSlot * n) (slots-are u)))) in
     refused-as (bs s) (fr s) (s .args .at) (s .args .buf .now) (s .pre .formed) true false (values s) (room s) (good (judged-at u)) z refl refl refl (c .unsent2 .result) (c .unsent2 .last .0) (c .unsent2 .ensures .0) (c .unsent2 .ensures .1)
 
-sub-first-loud : tie.Need-sub-first-loud
-sub-first-loud c = search needs
+sub-next-loud : tie.Need-sub-next-loud
+sub-next-loud c = search needs
 
-part-first-loud-start : tie.Need-part-first-loud-start
-part-first-loud-start c = search needs
+part-next-loud-start : tie.Need-part-next-loud-start
+part-next-loud-start c = search needs
 
-part-first-loud-end : tie.Need-part-first-loud-end
-part-first-loud-end c = search needs
+part-next-loud-end : tie.Need-part-next-loud-end
+part-next-loud-end c = search needs
 
-first-loud-requires : tie.Need-first-loud-requires
-first-loud-requires c κs =
+next-loud-requires : tie.Need-next-loud-requires
+next-loud-requires c κs =
     let w = c .before .before in
     let s = begin (set-up w) in
-    (few (set-up w), part-size (bs s) (s .pre .size), w .if2 .left)
+    (few (set-up w), part-size (bs s) (s .pre .size), w .if2 .left, omega arith)
 
 send-frame-requires : tie.Need-send-frame-requires
 send-frame-requires c κs = loud (c .before .before .before .before .before)
@@ -223,10 +223,10 @@ in-place-spec =
     unsent-requires-2
     same-length-2
     returns-2
-    sub-first-loud
-    part-first-loud-start
-    part-first-loud-end
-    first-loud-requires
+    sub-next-loud
+    part-next-loud-start
+    part-next-loud-end
+    next-loud-requires
     send-frame-requires
     same-length-3
     same-length-4

@@ -1,5 +1,5 @@
--- `lent_writer::judged` tells whether a state with the option off is well formed, test by test. Assumes nothing.
-use mathlib.Core.Path.{_≡_, refl, sym, ap, ap₂, _∙_}
+-- `lent_writer::judged` tells whether a state is well formed, test by test. Assumes nothing.
+use mathlib.Core.Path.{_≡_, refl, sym, ap, ap₂, subst, _∙_}
 use mathlib.Core.Bool.{Bool, true, false, _&&_}
 use mathlib.Core.List.{List}
 use Prim.Native.Nat.{ℕ}
@@ -11,12 +11,15 @@ use Rattle.model.specs.Table.{idsDiffer, goodRecords}
 use Rattle.model.specs.Pointing.{goodPointing}
 use Rattle.panel.specs.declared.Setup.{Setup}
 use Rattle.panel.specs.Seen.{tableOf, setupOf, fieldsOf, panelSeen}
+use Rattle.model.proofs.Bools.{and-left}
 use Rattle.panel.proofs.Setups.{small}
+use Rattle.panel.proofs.Tables.{good-rest}
 use Rattle.pointer.specs.Seen.{pointingOf}
+use Rattle.pointer.specs.Moved.{Unused}
 use Rattle.writer.specs.declared.WriterState.{WriterState}
 use Rattle.writer.proofs.States.{pointingGood, good-by}
 use Rattle.lent_writer.specs.Seen.{unpacked}
-use Rattle.lent_writer.proofs.Outcomes.{table-is, part-size, table-full, off-is}
+use Rattle.lent_writer.proofs.Outcomes.{table-is, part-size, table-full}
 use borrow.Author.Needs.{needs}
 use Rattle.lent_writer.proofs.judged.Statement.{statement}
 use Rattle.lent_writer.proofs.judged.Tie as tie
@@ -40,6 +43,9 @@ counts s = ltb (st s .counter) idCount
 
 abbrev start : tie.After-setup-ok → tie.Start
 start c = c .before .before .before
+
+setup-read : (c : tie.After-setup-ok) → c .before .setup-at .result ≡ st (start c) .setup
+setup-read c = c .before .setup-at .ensures
 
 setup-is : (c : tie.After-setup-ok) → c .setup-ok .result ≡ setupGood base (setupOf (st (start c) .setup))
 setup-is c = c .setup-ok .ensures ∙ ap (λ u. setupGood base (setupOf u)) (c .before .setup-at .ensures)
@@ -139,8 +145,13 @@ returns-4 c =
     let much : counts s ≡ false = le-ltb (st s .counter) idCount (omega (arith, c .if4 .taken, k .word-at2 .ensures)) in
     sym (good-by (st s) (table-full (bs s)) true true true false (pointingGood (st s)) (setup-good (first t)) (table-good t) (inside i) much refl)
 
-untold-requires : tie.Need-untold-requires
-untold-requires c κs = search needs
+pointing-ok-requires : tie.Need-pointing-ok-requires
+pointing-ok-requires c κs =
+    let t = tabled (c .before .before) in
+    let s = begin (t .before) in
+    let u = st s .setup in
+    let rest = good-rest u (st s .table) (table-full (bs s)) (and-left _ (idsDiffer (tableOf (st s .table))) (table-good t)) in
+    (s .pre .size, subst (λ (x : Setup). Unused (x .n) (st s .table)) (sym (setup-read (first t .before))) (record { few = small u (setup-good (first t)) .n; rest = rest }))
 
 returns-5 : tie.Need-returns-5
 returns-5 c =
@@ -150,9 +161,8 @@ returns-5 c =
     let t = tabled i in
     let s = begin (t .before) in
     let few : counts s ≡ true = lt-ltb (st s .counter) idCount (omega (arith, j .if4 .left, k .word-at2 .ensures)) in
-    let clear : pointingGood (st s) ≡ c .untold .result =
-    ap (λ v. goodPointing v (panelSeen (st s .setup)) (tableOf (st s .table)) (pointingOf (st s .ranks) (st s .told))) (off-is (bs s) (s .pre)) ∙ sym (c .untold .ensures) in
-    sym (good-by (st s) (table-full (bs s)) true true true true (c .untold .result) (setup-good (first t)) (table-good t) (inside i) few clear)
+    let told = c .pointing-ok .ensures ∙ ap (λ (u : Setup). goodPointing (st s .pointer) (panelSeen u) (tableOf (st s .table)) (pointingOf (st s .ranks) (st s .told))) (setup-read (first t .before)) in
+    sym (good-by (st s) (table-full (bs s)) true true true true (c .pointing-ok .result) (setup-good (first t)) (table-good t) (inside i) few (sym told))
 
 pub judged-spec : {M : Type 1} → statement M
 judged-spec =
@@ -171,5 +181,5 @@ judged-spec =
     returns-3
     word-at-requires-2
     returns-4
-    untold-requires
+    pointing-ok-requires
     returns-5)

@@ -1,40 +1,53 @@
 -- `lent_writer::send_frame` plans a frame in a copy of the table, and refuses it, hands the state back or sends it. Assumes nothing.
-use mathlib.Core.Path.{_≡_, refl, sym, ap, subst, _∙_}
-use mathlib.Core.Bool.{Bool, true, false}
-use mathlib.Core.List.{List}
+use mathlib.Core.Path.{_≡_, refl, sym, ap, ap₂, subst, _∙_}
+use mathlib.Core.Bool.{Bool, true, false, false≢true}
+use mathlib.Core.List.{List, _++_}
 use Prim.Native.Nat.{ℕ, _+_, _-_, _*_, _^_, _≤_}
 use native.Mathlib.Omega.{arith}
 use lib.Bits.{bitAnd}
 use lib.IntN.{ℤ}
-use lib.ListN.{length}
+use lib.ListN.{length, drop, length-drop}
+use lib.Seq.{length-take-le}
 use borrow.Author.Tests.{eq-eqb, not-true, not-false}
 use Rattle.model.specs.Panel.{base, perSlot, records}
+use Rattle.model.specs.Records.{lay}
 use Rattle.model.specs.Frame as F
 use Rattle.model.specs.Frame.{rowsFrom, valuesGood, framed}
-use Rattle.model.specs.Sending.{othersMask}
+use Rattle.model.specs.Sending.{lastOpened, othersMask}
 use Rattle.model.specs.Calls.{roomFor}
+use Rattle.model.specs.Pointer.{emulated}
 use Rattle.model.specs.Pointing.{pointerNeed, pointerCall, pointerBuffer}
 use Rattle.common.specs.declared.Verdict.the-variants.{NoRoom}
 use Rattle.panel.specs.declared.Slot.{Slot}
+use Rattle.panel.specs.declared.Setup.{Setup}
 use Rattle.panel.specs.Seen.{tableOf, panelSeen}
 use Rattle.plan.specs.declared.Planned.{Planned}
 use Rattle.plan.specs.Walk.{Plans}
 use Rattle.tally.proofs.Told.{others-told, events-told}
+use Rattle.pointer.specs.declared.Pointer.{Pointer}
+use Rattle.pointer.specs.declared.Moved.{Moved}
+use Rattle.pointer.specs.Seen.{pointerOf}
+use Rattle.pointer.specs.Moved.{MovesBy}
+use Rattle.send.specs.Sent.{bytesSent, sentBy}
+use Rattle.send.specs.Told.{touchBytes, endBytes}
 use Rattle.writer.specs.declared.WriterState.{WriterState}
 use Rattle.writer.specs.declared.Written.{Written}
-use Rattle.writer.specs.Seen.{seen, writtenFrom, notWrittenBy, writtenBy, stillBy, lastOf, ownOf, takenBy}
+use Rattle.writer.specs.Seen.{seen, writtenFrom, notWrittenBy, writtenBy, stillBy, ownOf, takenBy}
 use Rattle.writer.proofs.States.{good-size, good-current}
-use Rattle.writer.proofs.Accepted.{PlannedFrame, Known, refused-by}
+use Rattle.writer.proofs.Accepted.{PlannedFrame, Known, moving, refused-by, room-whole, sent-whole}
 use Rattle.writer.proofs.Quiet.{handed-back}
-use Rattle.lent.specs.Lent.{tableSize, tableIn}
-use Rattle.lent.proofs.Tables.{slots-length}
+use Rattle.lent.specs.Lent.{tableSize, tableIn, tableBytes}
+use Rattle.lent.proofs.Tables.{slots-length, table-length}
 use Rattle.lent_plan.specs.declared.Plan.{Plan}
 use Rattle.lent_plan.specs.InPlace.{PlansIn, withTable}
 use Rattle.lent_plan.proofs.Unique.{verdict-of}
+use Rattle.lent_writer.specs.declared.Telling.{Telling}
+use Rattle.lent_writer.specs.Layout.{stateSize, ranksAt}
 use Rattle.lent_writer.specs.Seen.{unpacked, packed, toldOf}
-use Rattle.lent_writer.specs.InPlace.{tablePart, sentBytes, Sends}
-use Rattle.lent_writer.proofs.Back.{packed-back}
-use Rattle.lent_writer.proofs.Outcomes.{table-is, part-size, table-full, promised, not-sent, handed, refused-as, ready-as, plans-are, known-off, room-is, sent-is, last-small}
+use Rattle.lent_writer.specs.InPlace.{tablePart, MovesOn, ToldBy, changedTo}
+use Rattle.lent_writer.proofs.Back.{packed-back, moved-in-place}
+use Rattle.lent_writer.proofs.Stored.{packed-length}
+use Rattle.lent_writer.proofs.Outcomes.{table-is, part-size, table-full, promised, not-sent, handed, refused-as, ready-as, plans-are, last-small}
 use borrow.Author.Needs.{needs}
 use Rattle.lent_writer.proofs.send_frame.Statement.{statement}
 use Rattle.lent_writer.proofs.send_frame.Tie as tie
@@ -85,6 +98,9 @@ all p = begin (copied p)
 abbrev fresh : tie.After-plan-frame → List ℕ
 fresh p = p .plan-frame .last .1 .1 .1 .1 .1 .0
 
+fresh-long : (p : tie.After-plan-frame) → length (fresh p) ≡ tableSize
+fresh-long p = search needs
+
 abbrev plan : tie.After-plan-frame → Plan
 plan p = p .plan-frame .result
 
@@ -128,40 +144,45 @@ frame-planned e =
       made = slots-length records (fresh (at-plan e)) 0;
     }
 
--- ---- what is counted
+-- ---- what is told
 
-abbrev judged : tie.After-event-count → tie.Else1
-judged t = t .before .before .before .before .before .before
+abbrev judged : tie.After-counted → tie.Else1
+judged t = t .before .before .before .before
 
-abbrev start : tie.After-event-count → tie.Start
+abbrev start : tie.After-counted → tie.Start
 start t = all (at-plan (judged t))
 
-current-is : (w : tie.After-wide) → w .wide .result ≡ st (all (at-plan (w .before .before .before .before))) .current .0
-current-is w = w .wide .ensures ∙ w .before .word-at2 .ensures
+abbrev telling : tie.After-counted → Telling
+telling t = t .counted .result
 
-others-are : (o : tie.After-without-current) → (let e = o .before .before .before .before .before in let s = st (all (at-plan e)) in
-    o .without-current .result ≡ othersMask (s .current .0) (tableOf (s .table)) (tableOf (made (at-plan e) .table)))
-others-are o =
-    let e = o .before .before .before .before .before in
-    let s = st (all (at-plan e)) in
+-- What is told, of the plan's table.
+told : (t : tie.After-counted) → (let p = made (at-plan (judged t)) in ToldBy (bs (start t)) (fresh (at-plan (judged t))) (p .changes) (telling t))
+told t = t .counted .ensures
+
+others-are : (t : tie.After-counted) → (let s = st (start t) in telling t .others ≡ othersMask (s .current .0) (tableOf (s .table)) (tableOf (made (at-plan (judged t)) .table)))
+others-are t =
+    let e = judged t in
+    let s = st (start t) in
     let p = made (at-plan e) in
-    o .without-current .ensures ∙ ap (λ c. p .changes .slots - bitAnd (p .changes .slots) (2 ^ c)) (current-is (o .before)) ∙ others-told (s .table) (p .table) (s .current .0) (s .setup .n) (p .changes) (plans e .tells)
+    told t .others ∙ ap (λ c. p .changes .slots - bitAnd (p .changes .slots) (2 ^ c)) (told t .current) ∙ others-told (s .table) (p .table) (s .current .0) (s .setup .n) (p .changes) (plans e .tells)
 
-abbrev others : tie.After-event-count → ℕ
-others t = t .before .without-current .result
+abbrev events : tie.After-counted → ℕ
+events t = telling t .events
 
-abbrev events : tie.After-event-count → ℕ
-events t = t .event-count .result
-
-known : (t : tie.After-event-count) → Known (st (start t)) (fr (start t)) (made (at-plan (judged t))) (lastOf (st (start t))) (others t) (events t)
+known : (t : tie.After-counted) → Known (st (start t)) (fr (start t)) (made (at-plan (judged t))) (telling t .moved) (telling t .others) (events t)
 known t =
     let e = judged t in
     let s = st (start t) in
     let p = made (at-plan e) in
-    known-off (bs (start t)) (start t .pre .bytes) (fr (start t)) p (others t) (events t) (frame-planned e) (others-are (t .before))
-    (t .event-count .ensures .0 ∙ events-told (s .table) (p .table) (s .current .0) (s .setup .n) (p .changes) (plans e .tells) (others t) (others-are (t .before)))
+    let contact = events-told (s .table) (p .table) (s .current .0) (s .setup .n) (p .changes) (plans e .tells) (telling t .others) (others-are t) in
+    record {
+      frame = frame-planned e;
+      moves = told t .moved;
+      opened = others-are t;
+      count = told t .events ∙ ap₂ (λ a q. a + length (emulated (pointerOf q) (pointerOf (telling t .moved .told)))) contact (told t .told);
+    }
 
-abbrev size : tie.After-event-count → ℕ
+abbrev size : tie.After-counted → ℕ
 size t = length (start t .args .buf .now)
 
 -- There is room.
@@ -169,7 +190,7 @@ roomy : (e : tie.Else2) → (let t = e .before .before in roomFor (8 * events t)
 roomy e = sym (e .before .has-room .ensures) ∙ not-false (e .before .has-room .result) (e .if2 .left)
 
 -- Where the state's bytes are known to be bytes.
-abbrev known-at : tie.After-event-count → tie.After-slice-known
+abbrev known-at : tie.After-counted → tie.After-slice-known
 known-at t = counted (copied (at-plan (judged t))) .before .before .before .before .before
 
 -- ---- the needs
@@ -230,25 +251,24 @@ returns c =
     refused-as (bs s) (fr s) (s .args .at) (s .args .buf .now) (s .pre .bytes .formed) true true false (roomFor (pointerNeed base (seen (st s)) (fr s)) (s .args .at) (length (s .args .buf .now)))
     (s .pre .good) (eq-eqb (length (fr s)) (perSlot * st s .setup .n) (s .pre .size)) v refl refl (c .unsent .result) (c .unsent .last .0) (c .unsent .ensures .0) (c .unsent .ensures .1)
 
-word-at-requires-2 : tie.Need-word-at-requires-2
-word-at-requires-2 c κs = search needs
+slice-aggregate-counted : tie.Need-slice-aggregate-counted
+slice-aggregate-counted c = search needs
 
-wide-requires : tie.Need-wide-requires
-wide-requires c κs = search needs
-
-without-current-requires : tie.Need-without-current-requires
-without-current-requires c κs =
-    let s = all (at-plan (c .before .before .before .before)) in
-    omega (arith, current-is c, good-current (st s) (s .pre .good))
-
-event-count-requires : tie.Need-event-count-requires
-event-count-requires c κs =
-    let e = c .before .before .before .before .before in
-    let s = all (at-plan e) in
-    omega (arith, plans e .tells .before .numbers, good-size (st s) (s .pre .good))
+counted-requires : tie.Need-counted-requires
+counted-requires c κs =
+    let e = c .before .before .before in
+    let p = at-plan e in
+    let s = all p in
+    record {
+      size = s .pre .bytes .size;
+      whole = fresh-long p;
+      moves = subst (λ (u : Setup). MovesOn (bs s) (fresh p) (u .n) (plan p .changes .slots)) (sym (setup-is (copied p))) (moving (frame-planned e));
+      current = good-current (st s) (s .pre .good);
+      few = omega (arith, plans e .tells .before .numbers, good-size (st s) (s .pre .good));
+    }
 
 mul-need : tie.Need-mul-need
-mul-need c = search needs
+mul-need c = omega (arith, told c .few)
 
 has-room-requires : tie.Need-has-room-requires
 has-room-requires c κs = search needs
@@ -295,48 +315,51 @@ part-send-all-start : tie.Need-part-send-all-start
 part-send-all-start c = search needs
 
 part-send-all-end : tie.Need-part-send-all-end
-part-send-all-end c = omega (arith, start (c .before .before .before .before .before) .pre .bytes .size)
+part-send-all-end c = omega (arith, start (c .before .before .before .before .before .before) .pre .bytes .size)
 
 slice-aggregate-send-all : tie.Need-slice-aggregate-send-all
 slice-aggregate-send-all c = search needs
 
-fresh-long : (p : tie.After-plan-frame) → length (fresh p) ≡ tableSize
-fresh-long p = search needs
+-- What is sent, of the numbers as the code has them.
+abbrev told-bytes : tie.After-counted → List Slot → Pointer → ℕ → List ℕ
+told-bytes t l q c =
+    let z = telling t .moved .told in
+    (touchBytes q z ++ bytesSent (sentBy l (tableIn (fresh (at-plan (judged t)))) (telling t .others) c)) ++ endBytes q z
 
--- The room that is asked for, of the numbers as the code has them.
-room-of : (t : tie.After-event-count) {c : ℕ} {l : List Slot} → l ≡ st (start t) .table → c ≡ st (start t) .current .0
-    → start t .args .at + length (sentBytes (st (start t) .table) (tableIn (fresh (at-plan (judged t)))) (others t) (st (start t) .current .0)) ≤ size t
-    → start t .args .at + length (sentBytes l (tableIn (fresh (at-plan (judged t)))) (others t) c) ≤ size t
-room-of t {c} {l} el ec h =
-    let new = tableIn (fresh (at-plan (judged t))) in
-    let at = start t .args .at in
-    subst (λ c. at + length (sentBytes l new (others t) c) ≤ size t) (sym ec) (subst (λ l. at + length (sentBytes l new (others t) (st (start t) .current .0)) ≤ size t) (sym el) h)
+bytes-are : (t : tie.After-counted) → told-bytes t (part (start t)) (telling t .told) (telling t .current .0) ≡ told-bytes t (st (start t) .table) (st (start t) .told) (st (start t) .current .0)
+bytes-are t =
+    let l = part-is (start t) in
+    let q = told t .told in
+    let c = told t .current in
+    λ i. told-bytes t (l i) (q i) (c i)
 
 send-all-requires : tie.Need-send-all-requires
 send-all-requires c κs =
-    let n = c .before .before .before .before in
+    let n = c .before .before .before .before .before in
     let t = n .before .before .before in
-    let s = start t in
-    let w = t .before .before in (
-      omega (arith, current-is w, good-current (st s) (s .pre .good)),
+    let s = start t in (
+      omega (arith, told t .current, good-current (st s) (s .pre .good)),
       part-long s,
       fresh-long (at-plan (judged t)),
-      room-of t (part-is s) (current-is w) (room-is (known t) (s .args .at) (s .args .buf .now) (roomy (n .before)) (n .if3 .left)),
+      subst (λ l. s .args .at + length l ≤ size t) (sym (bytes-are t)) (room-whole (known t) (s .args .at) (s .args .buf .now) (roomy (n .before)) (n .if3 .left)),
     )
 
 -- ---- sent
 
 abbrev passed : tie.After-send-all → tie.Else3
-passed d = d .before .before .before .before .before
+passed d = d .before .before .before .before .before .before
 
-abbrev begun : tie.After-send-all → tie.After-event-count
+abbrev begun : tie.After-send-all → tie.After-counted
 begun d = passed d .before .before .before
+
+abbrev last : tie.After-send-all → ℕ
+last d = d .send-all .result .0
 
 abbrev answer : tie.After-send-all → Written
 answer d =
     let s = st (start (begun d)) in
     let p = made (at-plan (judged (begun d))) in
-    takenBy (p .table) (lastOf s) (ownOf (s .setup) (record { 0 = d .send-all .result .0 }) (p .counter) (s .pointer)) (events (begun d)) (p .changes .slots)
+    takenBy (p .table) (telling (begun d) .moved) (ownOf (s .setup) (record { 0 = last d }) (p .counter) (s .pointer)) (events (begun d)) (p .changes .slots)
 
 sent : (d : tie.After-send-all) → (let s = start (begun d) in
     (answer d ≡ writtenFrom (pointerCall base (seen (st s)) (fr s) (s .args .at) (length (s .args .buf .now)))) × (d .send-all .last .0 ≡ pointerBuffer base (seen (st s)) (fr s) (s .args .at) (s .args .buf .now)))
@@ -344,10 +367,11 @@ sent d =
     let t = begun d in
     let s = start t in
     let new = tableIn (fresh (at-plan (judged t))) in
-    let last = d .send-all .result .0 in
-    let sends = subst (λ l. Sends (s .args .at) l new (others t) (st s .current .0) (s .args .buf .now) last (d .send-all .last .0)) (part-is s)
-    (subst (λ c. Sends (s .args .at) (part s) new (others t) c (s .args .buf .now) last (d .send-all .last .0)) (current-is (t .before .before)) (d .send-all .ensures)) in
-    sent-is (known t) (s .args .at) (s .args .buf .now) (roomy (passed d .before)) (passed d .if3 .left) last (d .send-all .last .0) sends
+    let c = told t .current in
+    let l = part-is s in
+    let opened = d .send-all .ensures .last ∙ (λ i. lastOpened (c i) (sentBy (l i) new (telling t .others) (c i))) in
+    sent-whole (known t) (s .args .at) (s .args .buf .now) (roomy (passed d .before)) (passed d .if3 .left) (last d) (d .send-all .last .0) opened
+    (d .send-all .ensures .bytes ∙ ap (λ x. lay (s .args .at) x (s .args .buf .now)) (bytes-are t))
 
 slice-aggregate-store : tie.Need-slice-aggregate-store
 slice-aggregate-store c = search needs
@@ -356,15 +380,36 @@ store-requires : tie.Need-store-requires
 store-requires c κs =
     let d = c .before .before .before .before in
     let t = begun d in
-    let s = start t in
-    let p = at-plan (judged t) in
-    let w = sent d .0 in (
-      record { formed = s .pre .bytes .formed; size = s .pre .bytes .size; whole = fresh-long p; told = plans (judged t) .tells .slots },
+    let s = start t in (
+      record { formed = s .pre .bytes .formed; size = s .pre .bytes .size; whole = fresh-long (at-plan (judged t)); told = plans (judged t) .tells .slots },
       last-small (st s) (fr s) (s .args .at) (s .args .buf .now) (answer d) (sent d .0) refl,
     )
 
-cast-t52 : tie.Need-cast-t52
-cast-t52 c = search needs
+-- The state with the new table, current slot and counter.
+abbrev went : tie.After-store → tie.After-send-all
+went w = w .before .before .before .before .before
+
+abbrev changed : tie.After-store → WriterState
+changed w =
+    let t = begun (went w) in
+    let p = made (at-plan (judged t)) in
+    changedTo (st (start t)) (p .table) (last (went w)) (p .counter)
+
+full : (w : tie.After-store) → length (changed w .table) ≡ records
+full w = slots-length records (fresh (at-plan (judged (begun (went w))))) 0
+
+ranked : (w : tie.After-store) → length (changed w .ranks) ≡ records
+ranked w =
+    let s = start (begun (went w)) in
+    length-take-le records (drop ranksAt (bs s)) (omega (arith, length-drop ranksAt (bs s), s .pre .bytes .size))
+
+store-moved-requires : tie.Need-store-moved-requires
+store-moved-requires c κs =
+    let w = c .before .before .before in
+    ap length (w .store .ensures) ∙ packed-length (changed w) (full w) (ranked w)
+
+cast-t55 : tie.Need-cast-t55
+cast-t55 c = search needs
 
 same-length-4 : tie.Need-same-length-4
 same-length-4 c = search needs
@@ -372,13 +417,29 @@ same-length-4 c = search needs
 same-length-5 : tie.Need-same-length-5
 same-length-5 c = search needs
 
+-- With the option off nothing moved.
+still : (on : Bool) (old new : List Slot) (rs : List ℕ) (q : Pointer) (m : Moved) → MovesBy on old new rs q m → on ≡ false → m ≡ record { ranks = rs; told = q }
+still true old new rs q m h e = absurd (false≢true (sym e))
+still false old new rs q m h e = h
+
+-- The state with all that was stored.
+stored : (k : tie.After-store-moved) → k .store-moved .last .0 ≡ packed (answer (went (k .before .before .before .before)) .state)
+stored k =
+    let w = k .before .before .before .before in
+    let t = begun (went w) in
+    let s = st (start t) in
+    let m = telling t .moved in
+    let size : length (tableBytes (changed w .table)) ≡ tableSize = omega (arith, table-length (changed w .table), full w) in
+    k .store-moved .ensures
+    ∙ moved-in-place (changed w) m size (ranked w) (told t .ranked) (w .store .last .0) (w .store .ensures) (still (s .pointer) (s .table) (changed w .table) (s .ranks) (s .told) m (told t .moved))
+
 returns-4 : tie.Need-returns-4
 returns-4 c =
     let k = c .before .before .before .before in
-    let d = k .before .before .before .before .before in
+    let d = went (k .before .before .before .before) in
     let s = start (begun d) in
-    promised (bs s) (fr s) (s .args .at) (s .args .buf .now) (s .pre .bytes .formed) (answer d) 0 (k .store .last .0) (toldOf (answer d)) (d .send-all .last .0) (sent d)
-    (record { number = refl; state = k .store .ensures; answer = refl })
+    promised (bs s) (fr s) (s .args .at) (s .args .buf .now) (s .pre .bytes .formed) (answer d) 0 (k .store-moved .last .0) (toldOf (answer d)) (d .send-all .last .0) (sent d)
+    (record { number = refl; state = stored k; answer = refl })
 
 pub send-frame-spec : {M : Type 1} → statement M
 send-frame-spec =
@@ -398,10 +459,8 @@ send-frame-spec =
     unsent-requires
     same-length
     returns
-    word-at-requires-2
-    wide-requires
-    without-current-requires
-    event-count-requires
+    slice-aggregate-counted
+    counted-requires
     mul-need
     has-room-requires
     unsent-requires-2
@@ -417,7 +476,8 @@ send-frame-spec =
     send-all-requires
     slice-aggregate-store
     store-requires
-    cast-t52
+    store-moved-requires
+    cast-t55
     same-length-4
     same-length-5
     returns-4)

@@ -1,7 +1,6 @@
 -- `lent_writer::write` answers as the call by value does, over bytes that are a state's. Assumes nothing.
 use mathlib.Core.Path.{_≡_, sym, _∙_}
 use mathlib.Core.Bool.{true}
-use native.Mathlib.Omega.{arith}
 use borrow.Author.Tests.{not-true, not-false}
 use Rattle.lent_writer.specs.Seen.{formed}
 use Rattle.lent_writer.proofs.Forms.{form}
@@ -32,11 +31,10 @@ returns c =
     let e = sym (k .formed .ensures) ∙ not-true (k .formed .result) (c .before .before .if1 .taken) in
     frame-refused (a .state .now) (a .at) (a .buf .now) (a .frame .now) e (c .unsent .result) (c .unsent .last .0) (c .unsent .ensures)
 
-slice-read-if2 : tie.Need-slice-read-if2
-slice-read-if2 c = let t = c .before in omega (arith, form (begin t .args .state .now) (formed-at t) .size)
-
-by-value-requires : tie.Need-by-value-requires
-by-value-requires c κs = formed-at (c .before .before .before .before .before)
+in-place-requires : tie.Need-in-place-requires
+in-place-requires c κs =
+    let t = c .before .before .before in
+    record { formed = formed-at t; size = form (begin t .args .state .now) (formed-at t) .size }
 
 same-length-2 : tie.Need-same-length-2
 same-length-2 c = search needs
@@ -47,22 +45,6 @@ same-length-3 c = search needs
 returns-2 : tie.Need-returns-2
 returns-2 c = search needs
 
-in-place-requires : tie.Need-in-place-requires
-in-place-requires c κs =
-    let n = c .before .before .before in
-    let t = n .before .before in
-    let f = form (begin t .args .state .now) (formed-at t) in
-    record { formed = formed-at t; size = f .size; off = omega (arith, f .option, n .if2 .left) }
-
-same-length-4 : tie.Need-same-length-4
-same-length-4 c = search needs
-
-same-length-5 : tie.Need-same-length-5
-same-length-5 c = search needs
-
-returns-3 : tie.Need-returns-3
-returns-3 c = search needs
-
 pub write-spec : {M : Type 1} → statement M
 write-spec =
     tie.close
@@ -71,12 +53,7 @@ write-spec =
     unsent-requires
     same-length
     returns
-    slice-read-if2
-    by-value-requires
+    in-place-requires
     same-length-2
     same-length-3
-    returns-2
-    in-place-requires
-    same-length-4
-    same-length-5
-    returns-3)
+    returns-2)

@@ -62,7 +62,7 @@ returns : tie.Need-returns Inv-loop μ-loop
 returns c =
     let q = c .before in
     let l = q .before .before .before .before .loop in
-    record { inside = l .inv .0; before = l .inv .1; loud = λ h. sym (told q) ∙ not-true (q .quiet .result) (c .if1 .taken) }
+    record { after = omega arith; inside = l .inv .0; quiet = λ i f h. l .inv .1 i h; loud = λ h. sym (told q) ∙ not-true (q .quiet .result) (c .if1 .taken) }
 
 add-s : tie.Need-add-s Inv-loop μ-loop
 add-s c = search needs
@@ -83,7 +83,7 @@ loop-again c =
 returns-2 : tie.Need-returns-2 Inv-loop μ-loop
 returns-2 c =
     let l = c .before .loop in
-    record { inside = omega arith; before = λ i h. l .inv .1 i (omega (arith, c .loop-test .left)); loud = λ h. absurd (omega arith) }
+    record { after = omega arith; inside = omega arith; quiet = λ i f h. l .inv .1 i (omega (arith, c .loop-test .left)); loud = λ h. absurd (omega arith) }
 
 pub first-loud-spec : {M : Type 1} → statement M
 first-loud-spec =

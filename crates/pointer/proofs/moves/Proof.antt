@@ -2,25 +2,17 @@
 use mathlib.Core.Path.{_≡_, sym, ap, ap₂, _∙_, subst}
 use Prim.Native.Nat.{_≤_, _<_, _-_}
 use native.Mathlib.Omega.{arith}
-use lib.Dec.{T}
 use lib.ListN.{length, getD}
 use mir.Syntax.{w32}
 use mir.Val.{SFits}
 use mir.ValLaws.{toZ-ofZ}
 use Rattle.model.specs.Panel.{records}
 use Rattle.model.specs.Table.{ids}
-use Rattle.model.specs.Ranks.{liveCount, goodRanks, ranksAfter}
-use Rattle.model.specs.Pointer.{touchOf, toolOf}
-use Rattle.model.proofs.Bools.{holds}
-use Rattle.model.proofs.Tables.{eqSlot→eq}
 use Rattle.panel.specs.Seen.{tableOf, blank}
-use Rattle.pointer.specs.Seen.{pointerOf, fatesBy}
-use Rattle.pointer.specs.Moved.{Idle, oldestOr0, ranksBy, shownOf, placedAt}
+use Rattle.pointer.specs.Seen.{pointerOf}
+use Rattle.pointer.specs.Moved.{Idle, shownOf, placedAt}
 use Rattle.pointer.proofs.Turns.{Copied, copied-start, copied-turn, copied-over}
-use Rattle.pointer.proofs.Ranked.{rank-at-small}
-use Rattle.pointer.proofs.Numbers.{placed-shown, shown-is}
-use Rattle.pointer.proofs.Kept.{ranks-kept}
-use Rattle.pointer.proofs.Covered.{changed-covers}
+use Rattle.pointer.proofs.Onward.{covers, old-good, ranked-by, stayed, ranked-anew}
 use borrow.Author.Needs.{needs}
 use Rattle.pointer.proofs.moves.Statement.{statement}
 use Rattle.pointer.proofs.moves.Tie as tie
@@ -57,34 +49,12 @@ full-old s = search needs
 full : (s : tie.Start Inv-loop μ-loop) → length (s .args .t3) ≡ records
 full s = search needs
 
--- The ranks before the frame are good beside the ids, and as many.
-old-good : (c : Over) → T (goodRanks (c .before .loop .was) (c .before .before .args .last .ranks))
-old-good c = let s = c .before .before in subst (λ l. T (goodRanks l (s .args .last .ranks))) (sym (was-own c .0)) (s .pre .before)
-
 ranked : (c : Over) → length (c .before .before .args .last .ranks) ≡ records
 ranked c = search needs
 
 -- Where it is known whether the ids stay.
 abbrev over : tie.After-ids-stay Inv-loop μ-loop → Over
 over k = k .before .before .before .before .before
-
-abbrev Ranks : Type 0
-Ranks = tie.After-ranks-after Inv-loop μ-loop
-
--- Where they do not.
-abbrev apart : Ranks → Over
-apart k = over (k .before .before .before .before .before)
-
--- The ranks that are made then are those after the frame, and good.
-made : (k : Ranks) → (let a = apart k .before .before .args in k .ranks-after .result ≡ ranksBy (a .t2) (a .t3) (a .last .ranks))
-made k =
-    let a = apart k .before .before .args in
-    k .ranks-after .ensures ∙ ap₂ (λ x y. ranksAfter (fatesBy x y) (a .last .ranks)) (was-own (apart k) .0) (is-own (apart k) .0)
-
-good : (k : Ranks) → T (goodRanks (apart k .before .loop .is) (k .ranks-after .result))
-good k =
-    let s = apart k .before .before in
-    subst (λ l. T (goodRanks l (k .ranks-after .result))) (sym (is-own (apart k) .0)) (subst (λ r. T (goodRanks (ids (tableOf (s .args .t3))) r)) (sym (made k)) (s .pre .after))
 
 -- ---- the needs
 
@@ -148,9 +118,9 @@ ids-stay-requires c κs =
     let e = c .before .before .before .before in
     let s = e .before .before in
     let a = s .args in
-    let l = e .before .loop in
-    let covers = changed-covers (a .t2) (a .t3) (a .slots) (l .was) (l .is) (full-old s) (full s) (s .pre .changed) (was-own e .0) (is-own e .0) in
-    (was-own e .1 .whole, is-own e .1 .whole, covers)
+    let w = was-own e in
+    let i = is-own e in
+    (w .1 .whole, i .1 .whole, covers (a .n) (a .t2) (a .t3) (a .slots) (a .last) (s .pre) (full-old s) (full s) _ _ (w .0) (i .0) (w .1 .whole) (i .1 .whole))
 
 slice-aggregate-oldest-slot : tie.Need-slice-aggregate-oldest-slot Inv-loop μ-loop
 slice-aggregate-oldest-slot c = search needs
@@ -174,27 +144,13 @@ returns : tie.Need-returns Inv-loop μ-loop
 returns c =
     let oldest = c .before .before in
     let t = oldest .before .before .before in
-    let k = t .before in
-    let e = over k in
+    let e = over (t .before) in
     let s = e .before .before in
-    let l = e .before .loop in
     let a = s .args in
-    let rs = a .last .ranks in
-    let q = pointerOf (a .last .told) in
-    let own = is-own e in
-    let m = liveCount (l .is) in
-    let same : l .was ≡ l .is = eqSlot→eq (l .was) (l .is) (holds _ (sym (k .ids-stay .ensures) ∙ t .if1 .taken)) in
-    let stay : ids (tableOf (a .t2)) ≡ l .is = sym (was-own e .0) ∙ same in
-    let kept = ap (λ x. ranksAfter (fatesBy (l .was) x) rs) (sym same) ∙ ranks-kept (l .was) rs (was-own e .1 .whole) (old-good e) in
-    let touch = ap (λ p. p .touch) (s .pre .shown) ∙ ap (λ x. touchOf (liveCount x)) stay in
-    let tool = ap (λ p. p .tool) (s .pre .shown) ∙ ap (λ x. toolOf (liveCount x)) stay in
-    record {
-      ranks = sym kept ∙ ap₂ (λ x y. ranksAfter (fatesBy x y) rs) (was-own e .0) (own .0);
-      told =
-          c .placed .ensures ∙ ap (λ i. placedAt (getD (a .t3) i blank) q) (oldest .oldest-slot .ensures .1)
-          ∙ placed-shown m (getD (a .t3) (oldestOr0 (l .is) rs) blank) q touch tool
-          ∙ shown-is (a .t3) rs q (full s) (l .is) (own .0) (own .1 .whole) (subst (λ x. T (goodRanks x rs)) same (old-good e));
-    }
+    let w = was-own e in
+    let i = is-own e in
+    stayed (a .n) (a .t2) (a .t3) (a .slots) (a .last) (s .pre) (full-old s) (full s) _ _ (w .0) (i .0) (w .1 .whole) (i .1 .whole) (sym (t .before .ids-stay .ensures) ∙ t .if1 .taken) (c .placed .result)
+    (c .placed .ensures ∙ ap (λ k. placedAt (getD (a .t3) k blank) (pointerOf (a .last .told))) (oldest .oldest-slot .ensures .1))
 
 slice-aggregate-ranks-after : tie.Need-slice-aggregate-ranks-after Inv-loop μ-loop
 slice-aggregate-ranks-after c = search needs
@@ -207,13 +163,13 @@ slice-aggregate-ranks-after-3 c = search needs
 
 ranks-after-requires : tie.Need-ranks-after-requires Inv-loop μ-loop
 ranks-after-requires c κs =
-    let k = c .before .before .before .before in
-    let e = over k in
-    let rs = e .before .before .args .last .ranks in
-    let g = old-good e in
-    let n = ranked e in (
-      record { before = was-own e .1 .whole; after = is-own e .1 .whole; ranked = n; small = λ i h. omega (arith, n, rank-at-small (e .before .loop .was) rs i g (omega arith)) },
-      g,
+    let e = over (c .before .before .before .before) in
+    let s = e .before .before in
+    let a = s .args in
+    let w = was-own e in
+    let i = is-own e in (
+      ranked-by (a .n) (a .t2) (a .t3) (a .slots) (a .last) (s .pre) (full-old s) (full s) _ _ (w .0) (i .0) (w .1 .whole) (i .1 .whole) (ranked e),
+      old-good (a .n) (a .t2) (a .t3) (a .slots) (a .last) (s .pre) (full-old s) (full s) _ _ (w .0) (i .0) (w .1 .whole) (i .1 .whole),
     )
 
 slice-aggregate-oldest-slot-3 : tie.Need-slice-aggregate-oldest-slot-3 Inv-loop μ-loop
@@ -245,16 +201,13 @@ returns-2 c =
     let live = c .before .before in
     let oldest = live .before .before in
     let k = oldest .before .before .before in
-    let e = apart k in
-    let a = e .before .before .args in
-    let q = pointerOf (a .last .told) in
-    let own = is-own e in
-    record {
-      ranks = made k;
-      told =
-          c .pointed .ensures ∙ ap₂ (λ m i. shownOf m (getD (a .t3) i blank) q) (live .live-count .ensures .0) (oldest .oldest-slot2 .ensures .1)
-          ∙ shown-is (a .t3) (k .ranks-after .result) q (full (e .before .before)) (e .before .loop .is) (own .0) (own .1 .whole) (good k);
-    }
+    let e = over (k .before .before .before .before .before) in
+    let s = e .before .before in
+    let a = s .args in
+    let w = was-own e in
+    let i = is-own e in
+    ranked-anew (a .n) (a .t2) (a .t3) (a .slots) (a .last) (s .pre) (full-old s) (full s) _ _ (w .0) (i .0) (w .1 .whole) (i .1 .whole) (k .ranks-after .result) (k .ranks-after .ensures) (c .pointed .result)
+    (c .pointed .ensures ∙ ap₂ (λ m j. shownOf m (getD (a .t3) j blank) (pointerOf (a .last .told))) (live .live-count .ensures .0) (oldest .oldest-slot2 .ensures .1))
 
 pub moves-spec : {M : Type 1} → statement M
 moves-spec =

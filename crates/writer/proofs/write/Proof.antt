@@ -232,14 +232,14 @@ returns-3 : tie.Need-returns-3
 returns-3 c =
     let q = c .before .before .before in
     let s = begin q in
-    let all-quiet : (i : ℕ) → i < st s .setup .n → QuietAt (fr s) (st s .table) i = λ i h. q .first-loud .ensures .before i (omega (arith, h, c .before .if3 .taken)) in
+    let all-quiet : (i : ℕ) → i < st s .setup .n → QuietAt (fr s) (st s .table) i = λ i h. q .first-loud .ensures .quiet i (omega arith) (omega (arith, h, c .before .if3 .taken)) in
     let r = still (st s) (fr s) (good-state q) (given q) (held-full s) all-quiet (s .args .at) (s .args .buf .now) in
     (c .unchanged .ensures ∙ r .0, r .1)
 
 plan-frame-requires : tie.Need-plan-frame-requires
 plan-frame-requires c κs =
     let q = c .before .before in
-    record { given = given q; inside = q .first-loud .ensures .inside; quiet = q .first-loud .ensures .before }
+    record { given = given q; inside = q .first-loud .ensures .inside; quiet = λ i h. q .first-loud .ensures .quiet i (omega arith) h }
 
 refused-requires-3 : tie.Need-refused-requires-3
 refused-requires-3 c κs = search needs

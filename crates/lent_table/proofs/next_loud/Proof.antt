@@ -1,4 +1,4 @@
--- `lent_table::first_loud` is the first slot whose row does not leave it as it is. The loop has passed s quiet rows. Assumes nothing.
+-- `lent_table::next_loud` is the first slot from a slot on whose row does not leave it as it is. The loop has passed the quiet rows before s. Assumes nothing.
 use mathlib.Core.Path.{_≡_, sym, ap₂, subst, _∙_}
 use Prim.Native.Nat.{ℕ, _≤_, _<_, _-_}
 use native.Mathlib.Omega.{arith}
@@ -11,14 +11,14 @@ use Rattle.plan.specs.Quiet.{quietRow, quietAt, Of32, QuietAt}
 use Rattle.plan.proofs.Still.{one-more}
 use Rattle.lent.specs.Lent.{tableIn}
 use Rattle.lent_table.proofs.Read.{slot-is}
-use Rattle.lent_table.proofs.first_loud.Statement.{statement}
-use Rattle.lent_table.proofs.first_loud.Tie as tie
+use Rattle.lent_table.proofs.next_loud.Statement.{statement}
+use Rattle.lent_table.proofs.next_loud.Tie as tie
 
 abbrev Inv-loop : tie.InvT-loop
-Inv-loop n t frame s₀ s = (s ≤ n) × ((i : ℕ) → i < s → QuietAt frame (tableIn t) i)
+Inv-loop n t frame from s₀ s = (from ≤ s) × (s ≤ n) × ((i : ℕ) → i < s → from ≤ i → QuietAt frame (tableIn t) i)
 
 abbrev μ-loop : tie.MeasureT-loop
-μ-loop n t frame s₀ s = n - s
+μ-loop n t frame from s₀ s = n - s
 
 -- Where a turn begins.
 abbrev turn : tie.After-quiet Inv-loop μ-loop → tie.At-loop Inv-loop μ-loop
@@ -45,7 +45,7 @@ fitting c =
     (k, (x, (y, (p, (a, (i, tt))))))
 
 loop-holds : tie.Need-loop-holds Inv-loop μ-loop
-loop-holds c = (search needs, λ i h. absurd (omega arith))
+loop-holds c = (omega arith, search needs, λ i h f. absurd (omega arith))
 
 mul-row-at : tie.Need-mul-row-at Inv-loop μ-loop
 mul-row-at c = search needs
@@ -66,7 +66,7 @@ returns : tie.Need-returns Inv-loop μ-loop
 returns c =
     let q = c .before in
     let l = turn q .loop in
-    record { inside = l .inv .0; before = l .inv .1; loud = λ h. sym (told q) ∙ not-true (q .quiet .result) (c .if1 .taken) }
+    record { after = l .inv .0; inside = l .inv .1; quiet = λ i f h. l .inv .2 i h f; loud = λ h. sym (told q) ∙ not-true (q .quiet .result) (c .if1 .taken) }
 
 add-s : tie.Need-add-s Inv-loop μ-loop
 add-s c = search needs
@@ -82,15 +82,15 @@ loop-again c =
     let here = sym (told q) ∙ not-false (q .quiet .result) (c .if1 .left) in
     let row = q .before .before in
     let fits = subst Of32 (row .row-at .ensures) (fitting row) in
-    (search needs, one-more (QuietAt (a .frame .now) (tableIn (a .t .now))) (l .loop .s) (l .loop .inv .1) (record { is = here; fits = fits }))
+    (search needs, search needs, one-more (λ i. a .from ≤ i → QuietAt (a .frame .now) (tableIn (a .t .now)) i) (l .loop .s) (l .loop .inv .2) (λ f. record { is = here; fits = fits }))
 
 returns-2 : tie.Need-returns-2 Inv-loop μ-loop
 returns-2 c =
     let l = c .before .loop in
-    record { inside = omega arith; before = λ i h. l .inv .1 i (omega (arith, c .loop-test .left)); loud = λ h. absurd (omega arith) }
+    record { after = omega (arith, l .inv .0, l .inv .1); inside = omega arith; quiet = λ i f h. l .inv .2 i (omega (arith, h, c .loop-test .left)) f; loud = λ h. absurd (omega arith) }
 
-pub first-loud-spec : {M : Type 1} → statement M
-first-loud-spec =
+pub next-loud-spec : {M : Type 1} → statement M
+next-loud-spec =
     tie.close
     (tie.spec
     Inv-loop
