@@ -37,12 +37,17 @@ pub fn apt(setup: Setup, t: &[u8], ranks: &[u8], told: Pointer) -> bool
     requires { ⌜ Unused (setup .n) (tableIn (now t)) × (length (now t) ≡ tableSize) × (length (now ranks) ≡ records) ⌝ }
     ensures { λ r. ⌜ r ≡ goodPointing true (panelSeen setup) (tableOf (tableIn (now (t .entry)))) (pointingOf (now (ranks .entry)) told) ⌝ }
 {
-    let ids = ids_in(setup.n, t);
-    if !pointer::ranks_good(setup.n, &ids, ranks) {
+    let n = setup.n;
+    let ids = ids_in(n, t);
+    if !pointer::ranks_good(n, &ids, ranks) {
         return false;
     }
-    let k = pointer::oldest_slot(&ids, ranks);
-    let p = pointer::pointed(pointer::live_count(&ids), lent_table::slot_of(t, k), told);
+    let k = pointer::oldest_slot(n, &ids, ranks);
+    let p = pointer::pointed(
+        pointer::live_count(n, &ids),
+        lent_table::slot_of(t, k),
+        told,
+    );
     if !pointer::pointers_same(told, p) {
         return false;
     }
@@ -59,14 +64,18 @@ pub fn moves(n: usize, old: &[u8], new: &[u8], slots: u32, last: Moved) -> Moved
     let ranks = last.ranks;
     let told = last.told;
     if pointer::ids_stay(&was, &is, slots) {
-        let k = pointer::oldest_slot(&is, &ranks);
+        let k = pointer::oldest_slot(n, &is, &ranks);
         return Moved {
             ranks,
             told: pointer::placed(lent_table::slot_of(new, k), told),
         };
     }
-    let after = pointer::ranks_after(&was, &is, &ranks);
-    let k = pointer::oldest_slot(&is, &after);
-    let told = pointer::pointed(pointer::live_count(&is), lent_table::slot_of(new, k), told);
+    let after = pointer::ranks_after(n, &was, &is, &ranks);
+    let k = pointer::oldest_slot(n, &is, &after);
+    let told = pointer::pointed(
+        pointer::live_count(n, &is),
+        lent_table::slot_of(new, k),
+        told,
+    );
     Moved { ranks: after, told }
 }

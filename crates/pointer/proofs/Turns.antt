@@ -40,9 +40,6 @@ module _ (l : List ℤ) (i : ℕ) where
   pub live-turn : i < length l → liveCount (drop i l) ≡ oneMoreIf (live (getD l i (pos 0))) (liveCount (drop (i + 1) l))
   live-turn h = ap liveCount (next l i (pos 0) h)
 
-  pub live-over : length l ≤ i → liveCount (drop i l) ≡ 0
-  live-over h = ap liveCount (past l i h)
-
 -- ---- ids and ranks
 
 module _ (l : List ℤ) (rs : List ℕ) (i : ℕ) where
@@ -56,10 +53,6 @@ module _ (l : List ℤ) (rs : List ℕ) (i : ℕ) where
     pub ranks-turn : (let more = liveRanks (drop (i + 1) l) (drop (i + 1) rs) in liveRanks (drop i l) (drop i rs) ≡ cond (live (getD l i (pos 0))) (getD rs i 0 ∷ more) more)
     ranks-turn = ap₂ liveRanks (next l i (pos 0) h) (next rs i 0 k)
 
-  module _ (h : length l ≤ i) (k : length rs ≤ i) where
-    pub oldest-over : oldestSlot (drop i l) (drop i rs) ≡ 0
-    oldest-over = ap₂ oldestSlot (past l i h) (past rs i k)
-
 -- ---- the ids before a frame and after it
 
 module _ (l m : List ℤ) (rs : List ℕ) (i : ℕ) where
@@ -67,9 +60,6 @@ module _ (l m : List ℤ) (rs : List ℕ) (i : ℕ) where
       → ages records (fatesBy (drop i l) (drop i m)) (drop i rs)
       ≡ ages records (fateBy (getD l i (pos 0)) (getD m i (pos 0)) ∷ fatesBy (drop (i + 1) l) (drop (i + 1) m)) (getD rs i 0 ∷ drop (i + 1) rs)
   ages-turn h k j = ap₂ (ages records) (ap₂ fatesBy (next l i (pos 0) h) (next m i (pos 0) k)) (next rs i 0 j)
-
-  pub ages-over : length l ≤ i → ages records (fatesBy (drop i l) (drop i m)) (drop i rs) ≡ []
-  ages-over h = ap (λ x. ages records (fatesBy x (drop i m)) (drop i rs)) (past l i h)
 
   -- One that goes on leaves its rank to be marked; no other does, since the age of one that begins is past all flags.
   module _ (h : i < length l) (k : i < length m) (j : i < length rs) (flags all : List ℕ) (full : length flags ≡ records)

@@ -54,13 +54,14 @@ fn lives(id: i32) -> bool
     !common::same(id, TrackingId::UNUSED)
 }
 
-pub fn live_count(ids: &[i32]) -> usize
-    requires { ⌜ length (now ids) ≡ records ⌝ }
+// Past the first n none is live, here and below.
+pub fn live_count(n: usize, ids: &[i32]) -> usize
+    requires { ⌜ Idle n (now ids) ⌝ }
     ensures { λ r. ⌜ (r ≡ liveCount (now (ids .entry))) × (r ≤ records) ⌝ }
 {
     let mut count: usize = 0;
     let mut i: usize = 0;
-    while i < RECORDS {
+    while i < n {
         let id = ids[i];
         i += 1;
         if lives(id) {
@@ -142,12 +143,12 @@ pub fn ranks_good(n: usize, ids: &[i32], ranks: &[u8]) -> bool
 }
 
 // The slot whose contact began first, the lowest of several; 0 where none is live.
-pub fn oldest_slot(ids: &[i32], ranks: &[u8]) -> usize
-    requires { ⌜ (length (now ids) ≡ records) × (length (now ranks) ≡ records) ⌝ }
+pub fn oldest_slot(n: usize, ids: &[i32], ranks: &[u8]) -> usize
+    requires { ⌜ Idle n (now ids) × (length (now ranks) ≡ records) ⌝ }
     ensures { λ r. ⌜ (r < records) × (r ≡ oldestOr0 (now (ids .entry)) (now (ranks .entry))) ⌝ }
 {
     let mut i: usize = 0;
-    while i < RECORDS {
+    while i < n {
         if lives(ids[i]) & (ranks[i] == 0) {
             return i;
         }
@@ -163,13 +164,13 @@ fn goes_on(was: i32, is: i32) -> bool
 }
 
 // Flags for the ranks of the contacts that go on.
-fn marks_of(old: &[i32], new: &[i32], ranks: &[u8]) -> [u8; RECORDS]
-    requires { ⌜ Told (now old) (now new) (now ranks) ⌝ }
+fn marks_of(n: usize, old: &[i32], new: &[i32], ranks: &[u8]) -> [u8; RECORDS]
+    requires { ⌜ Told (now old) (now new) (now ranks) × Idle n (now new) ⌝ }
     ensures { λ r. ⌜ Marks r (ages records (fatesBy (now (old .entry)) (now (new .entry))) (now (ranks .entry))) ⌝ }
 {
     let mut m = [0u8; RECORDS];
     let mut i: usize = 0;
-    while i < RECORDS {
+    while i < n {
         let was = old[i];
         let is = new[i];
         let r = wide(ranks[i]);
@@ -219,15 +220,15 @@ fn age(was: i32, is: i32, rank: u8) -> usize
 }
 
 // The ranks after a frame, by the ids before it and after it: those that go on close their gaps, and all that begin come after them.
-pub fn ranks_after(old: &[i32], new: &[i32], ranks: &[u8]) -> [u8; RECORDS]
-    requires { ⌜ Told (now old) (now new) (now ranks) × T (goodRanks (now old) (now ranks)) ⌝ }
+pub fn ranks_after(n: usize, old: &[i32], new: &[i32], ranks: &[u8]) -> [u8; RECORDS]
+    requires { ⌜ Told (now old) (now new) (now ranks) × T (goodRanks (now old) (now ranks)) × Idle n (now new) ⌝ }
     ensures { λ r. ⌜ r ≡ ranksAfter (fatesBy (now (old .entry)) (now (new .entry))) (now (ranks .entry)) ⌝ }
 {
-    let m = marks_of(old, new, ranks);
+    let m = marks_of(n, old, new, ranks);
     let below = sums_of(&m);
     let mut l = [0u8; RECORDS];
     let mut i: usize = 0;
-    while i < RECORDS {
+    while i < n {
         let a = age(old[i], new[i], ranks[i]);
         l[i] = below[a];
         i += 1;
@@ -360,8 +361,8 @@ fn apt(setup: Setup, t: [Slot; RECORDS], ranks: [u8; RECORDS], told: Pointer) ->
     if !ranks_good(n, &ids, &ranks) {
         return false;
     }
-    let k = oldest_slot(&ids, &ranks);
-    let p = pointed(live_count(&ids), t[k], told);
+    let k = oldest_slot(n, &ids, &ranks);
+    let p = pointed(live_count(n, &ids), t[k], told);
     if !pointers_same(told, p) {
         return false;
     }
@@ -412,15 +413,15 @@ fn moves(n: usize, old: [Slot; RECORDS], new: [Slot; RECORDS], slots: u32, last:
     let ranks = last.ranks;
     let told = last.told;
     if ids_stay(&was, &is, slots) {
-        let k = oldest_slot(&is, &ranks);
+        let k = oldest_slot(n, &is, &ranks);
         return Moved {
             ranks,
             told: placed(new[k], told),
         };
     }
-    let after = ranks_after(&was, &is, &ranks);
-    let k = oldest_slot(&is, &after);
-    let told = pointed(live_count(&is), new[k], told);
+    let after = ranks_after(n, &was, &is, &ranks);
+    let k = oldest_slot(n, &is, &after);
+    let told = pointed(live_count(n, &is), new[k], told);
     Moved { ranks: after, told }
 }
 

@@ -100,7 +100,7 @@ ranks-after-requires c κs =
     let a = s .args in
     let w = i .before .ids-in in
     let v = i .ids-in2 in
-    (ranked-by (a .n) (old s) (new s) (a .slots) (a .last) (s .pre .0) (full (a .old .now)) (full (a .new .now)) (w .result) (v .result) (w .ensures .0) (v .ensures .0) (w .ensures .1 .whole) (v .ensures .1 .whole) (ranked i), old-good (a .n) (old s) (new s) (a .slots) (a .last) (s .pre .0) (full (a .old .now)) (full (a .new .now)) (w .result) (v .result) (w .ensures .0) (v .ensures .0) (w .ensures .1 .whole) (v .ensures .1 .whole))
+    (ranked-by (a .n) (old s) (new s) (a .slots) (a .last) (s .pre .0) (full (a .old .now)) (full (a .new .now)) (w .result) (v .result) (w .ensures .0) (v .ensures .0) (w .ensures .1 .whole) (v .ensures .1 .whole) (ranked i), old-good (a .n) (old s) (new s) (a .slots) (a .last) (s .pre .0) (full (a .old .now)) (full (a .new .now)) (w .result) (v .result) (w .ensures .0) (v .ensures .0) (w .ensures .1 .whole) (v .ensures .1 .whole), v .ensures .1)
 
 slice-aggregate-oldest-slot-3 : tie.Need-slice-aggregate-oldest-slot-3
 slice-aggregate-oldest-slot-3 c = search needs

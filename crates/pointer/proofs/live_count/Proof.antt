@@ -11,16 +11,17 @@ use mir.ValLaws.{toZ-ofZ}
 use Rattle.model.specs.Panel.{records}
 use Rattle.model.specs.Table.{live}
 use Rattle.model.specs.Ranks.{oneMoreIf, liveCount}
-use Rattle.pointer.proofs.Turns.{live-turn, live-over}
+use Rattle.pointer.proofs.Turns.{live-turn}
+use Rattle.pointer.proofs.Idle.{idle-live}
 use borrow.Author.Needs.{needs}
 use Rattle.pointer.proofs.live_count.Statement.{statement}
 use Rattle.pointer.proofs.live_count.Tie as tie
 
 abbrev Inv-loop : tie.InvT-loop
-Inv-loop ids count₀ i₀ count i = (i ≤ records) × (count ≤ i) × (liveCount ids ≡ count + liveCount (drop i ids))
+Inv-loop n ids count₀ i₀ count i = (i ≤ n) × (count ≤ i) × (liveCount ids ≡ count + liveCount (drop i ids))
 
 abbrev μ-loop : tie.MeasureT-loop
-μ-loop ids count₀ i₀ count i = records - i
+μ-loop n ids count₀ i₀ count i = n - i
 
 -- Whether the id that was read is live.
 found : (c : tie.After-lives Inv-loop μ-loop) → live (getD (c .before .before .before .before .args .ids .now) (c .before .before .before .loop .i) (pos 0)) ≡ c .lives .result
@@ -28,6 +29,11 @@ found c =
     let w = getD (c .before .before .before .before .args .ids .now) (c .before .before .before .loop .i) (pos 0) in
     let f : SFits w32 w = search needs in
     sym (c .lives .ensures ∙ ap live (toZ-ofZ w32 w f))
+
+inside : (c : tie.After-lives Inv-loop μ-loop) → c .before .before .before .loop .i < length (c .before .before .before .before .args .ids .now)
+inside c =
+    let s = c .before .before .before .before in
+    omega (arith, c .before .before .loop-test .taken, s .pre .few, s .pre .whole)
 
 loop-holds : tie.Need-loop-holds Inv-loop μ-loop
 loop-holds c =
@@ -56,7 +62,7 @@ loop-again : tie.Need-loop-again Inv-loop μ-loop
 loop-again c =
     let l = c .before .before .before .before .loop in
     let ids = c .before .before .before .before .before .args .ids .now in
-    let turn = live-turn ids (l .i) (search needs) ∙ ap (λ b. oneMoreIf b (liveCount (drop (l .i + 1) ids))) (found (c .before) ∙ c .if1 .taken) in
+    let turn = live-turn ids (l .i) (inside (c .before)) ∙ ap (λ b. oneMoreIf b (liveCount (drop (l .i + 1) ids))) (found (c .before) ∙ c .if1 .taken) in
     (search needs, search needs, omega (arith, l .inv .2, turn))
 
 loop-less-2 : tie.Need-loop-less-2 Inv-loop μ-loop
@@ -66,16 +72,18 @@ loop-again-2 : tie.Need-loop-again-2 Inv-loop μ-loop
 loop-again-2 c =
     let l = c .before .before .before .before .loop in
     let ids = c .before .before .before .before .before .args .ids .now in
-    let turn = live-turn ids (l .i) (search needs) ∙ ap (λ b. oneMoreIf b (liveCount (drop (l .i + 1) ids))) (found (c .before) ∙ c .if1 .left) in
+    let turn = live-turn ids (l .i) (inside (c .before)) ∙ ap (λ b. oneMoreIf b (liveCount (drop (l .i + 1) ids))) (found (c .before) ∙ c .if1 .left) in
     (search needs, search needs, omega (arith, l .inv .2, turn))
 
 returns : tie.Need-returns Inv-loop μ-loop
 returns c =
     let l = c .before .loop in
     let ids = c .before .before .args .ids .now in
-    let over = live-over ids (l .i) (search needs) in
+    let s = c .before .before in
+    let end : l .i ≡ s .args .n = omega (arith, l .inv .0, c .loop-test .left) in
+    let over = ap (λ k. liveCount (drop k ids)) end ∙ idle-live (s .args .n) ids (s .pre) in
     let e : l .count ≡ liveCount ids = omega (arith, l .inv .2, over) in
-    (e, search needs)
+    (e, omega (arith, l .inv .0, l .inv .1, s .pre .few))
 
 pub live-count-spec : {M : Type 1} → statement M
 live-count-spec =

@@ -14,7 +14,7 @@ use Rattle.model.specs.Ranks.{ages}
 use Rattle.model.proofs.RanksMarks.{Marked, marked-start}
 use Rattle.pointer.specs.Seen.{fatesBy}
 use Rattle.pointer.specs.Marks.{Marks, Told}
-use Rattle.pointer.proofs.Turns.{ages-over}
+use Rattle.pointer.proofs.Idle.{idle-ages}
 use Rattle.pointer.proofs.Tops.{marks-end}
 use Rattle.pointer.proofs.Turns.{going-turn, other-turn}
 use Rattle.model.specs.Numbers.{eqZ}
@@ -23,16 +23,16 @@ use borrow.Author.Needs.{needs}
 use Rattle.pointer.proofs.marks_of.Statement.{statement}
 use Rattle.pointer.proofs.marks_of.Tie as tie
 
-record MarkedTo (old new : List ℤ) (ranks m : List ℕ) (i : ℕ) : Type 0 where
-  inside : i ≤ records
+record MarkedTo (n : ℕ) (old new : List ℤ) (ranks m : List ℕ) (i : ℕ) : Type 0 where
+  inside : i ≤ n
   full : length m ≡ records
   marks : Marked m (ages records (fatesBy (drop i old) (drop i new)) (drop i ranks)) (ages records (fatesBy old new) ranks)
 
 abbrev Inv-loop : tie.InvT-loop
-Inv-loop old new ranks m₀ i₀ m i = MarkedTo old new ranks m i
+Inv-loop n old new ranks m₀ i₀ m i = MarkedTo n old new ranks m i
 
 abbrev μ-loop : tie.MeasureT-loop
-μ-loop old new ranks m₀ i₀ m i = records - i
+μ-loop n old new ranks m₀ i₀ m i = n - i
 
 abbrev start : tie.After-goes-on Inv-loop μ-loop → tie.After-shared-slice-known Inv-loop μ-loop
 start c = c .before .before .before .before .before .before .before
@@ -80,7 +80,7 @@ goes-on-requires c κs = search needs
 array-write-m : tie.Need-array-write-m Inv-loop μ-loop
 array-write-m c =
     let a = start (c .before) .before .args in
-    let told = start (c .before) .before .pre in
+    let told = start (c .before) .before .pre .0 in
     let i = c .before .before .before .before .before .before .before .loop .i in
     omega (arith, told .small i (search needs), c .before .before .wide .ensures)
 
@@ -90,7 +90,7 @@ loop-less c = search needs
 loop-again : tie.Need-loop-again Inv-loop μ-loop
 loop-again c =
     let a = start (c .before) .before .args in
-    let told = start (c .before) .before .pre in
+    let told = start (c .before) .before .pre .0 in
     let l = c .before .before .before .before .before .before .before .loop in
     let r = c .before .before .wide .ensures in
     let inside : l .i < records = search needs in
@@ -109,7 +109,7 @@ loop-less-2 c = search needs
 loop-again-2 : tie.Need-loop-again-2 Inv-loop μ-loop
 loop-again-2 c =
     let a = start (c .before) .before .args in
-    let told = start (c .before) .before .pre in
+    let told = start (c .before) .before .pre .0 in
     let l = c .before .before .before .before .before .before .before .loop in
     let inside : l .i < records = search needs in
     let all = ages records (fatesBy (a .old .now) (a .new .now)) (a .ranks .now) in
@@ -124,7 +124,8 @@ returns : tie.Need-returns Inv-loop μ-loop
 returns c =
     let l = c .before .loop in
     let a = c .before .before .before .args in
-    let none = ages-over (a .old .now) (a .new .now) (a .ranks .now) (l .i) (search needs) in
+    let end : l .i ≡ a .n = omega (arith, l .inv .inside, c .loop-test .left) in
+    let none = ap (λ k. ages records (fatesBy (drop k (a .old .now)) (drop k (a .new .now))) (drop k (a .ranks .now))) end ∙ idle-ages (a .n) (a .new .now) (c .before .before .before .pre .1) (a .old .now) (a .ranks .now) in
     marks-end (l .m) (ages records (fatesBy (a .old .now) (a .new .now)) (a .ranks .now)) (subst (λ x. Marked (l .m) x (ages records (fatesBy (a .old .now) (a .new .now)) (a .ranks .now))) none (l .inv .marks))
 
 pub marks-of-spec : {M : Type 1} → statement M

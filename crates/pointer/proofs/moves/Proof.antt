@@ -170,6 +170,7 @@ ranks-after-requires c κs =
     let i = is-own e in (
       ranked-by (a .n) (a .t2) (a .t3) (a .slots) (a .last) (s .pre) (full-old s) (full s) _ _ (w .0) (i .0) (w .1 .whole) (i .1 .whole) (ranked e),
       old-good (a .n) (a .t2) (a .t3) (a .slots) (a .last) (s .pre) (full-old s) (full s) _ _ (w .0) (i .0) (w .1 .whole) (i .1 .whole),
+      i .1,
     )
 
 slice-aggregate-oldest-slot-3 : tie.Need-slice-aggregate-oldest-slot-3 Inv-loop μ-loop

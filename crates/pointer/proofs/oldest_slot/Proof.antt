@@ -12,17 +12,18 @@ use mir.ValLaws.{toZ-ofZ}
 use Rattle.model.specs.Panel.{records}
 use Rattle.model.specs.Table.{live}
 use Rattle.model.specs.Pointer.{oldestSlot}
-use Rattle.pointer.proofs.Turns.{oldest-turn, oldest-over}
+use Rattle.pointer.proofs.Turns.{oldest-turn}
+use Rattle.pointer.proofs.Idle.{idle-oldest}
 use Rattle.pointer.proofs.Numbers.{oldest-found, oldest-none}
 use borrow.Author.Needs.{needs}
 use Rattle.pointer.proofs.oldest_slot.Statement.{statement}
 use Rattle.pointer.proofs.oldest_slot.Tie as tie
 
 abbrev Inv-loop : tie.InvT-loop
-Inv-loop ids ranks i₀ i = (i ≤ records) × (oldestSlot ids ranks ≡ i + oldestSlot (drop i ids) (drop i ranks))
+Inv-loop n ids ranks i₀ i = (i ≤ n) × (oldestSlot ids ranks ≡ i + oldestSlot (drop i ids) (drop i ranks))
 
 abbrev μ-loop : tie.MeasureT-loop
-μ-loop ids ranks i₀ i = records - i
+μ-loop n ids ranks i₀ i = n - i
 
 -- Whether the record is a live one of rank 0.
 found : (c : tie.After-shared-slice-known2 Inv-loop μ-loop) → (let a = c .before .before .before .before .before .before .args in let i = c .before .before .before .before .loop .i in
@@ -82,8 +83,10 @@ returns-2 : tie.Need-returns-2 Inv-loop μ-loop
 returns-2 c =
     let l = c .before .loop in
     let a = c .before .before .before .args in
-    let over = oldest-over (a .ids .now) (a .ranks .now) (l .i) (search needs) (search needs) in
-    let beyond : records ≤ oldestSlot (a .ids .now) (a .ranks .now) = omega (arith, l .inv .1, over) in
+    let p = c .before .before .before .pre in
+    let end : l .i ≡ a .n = omega (arith, l .inv .0, c .loop-test .left) in
+    let over = ap (λ k. oldestSlot (drop k (a .ids .now)) (drop k (a .ranks .now))) end ∙ idle-oldest (a .n) (a .ids .now) (p .0) (a .ranks .now) (p .1) in
+    let beyond : records ≤ oldestSlot (a .ids .now) (a .ranks .now) = omega (arith, l .inv .1, over, end, p .0 .few) in
     (omega arith, oldest-none (oldestSlot (a .ids .now) (a .ranks .now)) beyond)
 
 pub oldest-slot-spec : {M : Type 1} → statement M

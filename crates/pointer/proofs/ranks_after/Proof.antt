@@ -2,40 +2,49 @@
 use mathlib.Core.Path.{_≡_, refl, sym, ap, ap₂, _∙_}
 use mathlib.Core.Bool.{Bool, true, false, not}
 use mathlib.Core.List.{List}
-use Prim.Native.Nat.{ℕ, suc, _≤_, _<_, _+_, _-_}
+use Prim.Native.Nat.{ℕ, zero, suc, _≤_, _<_, _+_, _-_}
 use native.Mathlib.Omega.{arith}
 use lib.Dec.{T, ltb, ltb→lt, nltb→le}
 use lib.IntN.{ℤ, pos}
-use lib.ListN.{length, getD, set, length-set}
+use lib.ListN.{length, getD, set, replicate, length-set}
 use lib.Seq.{getD-set-same, getD-set-other}
 use mir.Syntax.{w32}
 use mir.Val.{SFits}
 use mir.ValLaws.{toZ-ofZ}
 use Rattle.model.specs.Panel.{records}
 use Rattle.pointer.specs.Seen.{fateBy, fatesBy}
-use Rattle.pointer.specs.Marks.{Told, ageBy}
+use Rattle.model.specs.Numbers.{minusOne}
+use Rattle.pointer.specs.Marks.{Told, Sums, ageBy}
+use Rattle.pointer.specs.Moved.{Idle}
+use Rattle.pointer.proofs.Idle.{idle-at}
 use Rattle.pointer.proofs.Ranked.{age-small, summed}
 use borrow.Author.Needs.{needs}
 use Rattle.pointer.proofs.ranks_after.Statement.{statement}
 use Rattle.pointer.proofs.ranks_after.Tie as tie
 
+zero-at : (n b : ℕ) → _≡_ {A = ℕ} (getD (replicate n 0) b 0) 0
+zero-at zero b = refl
+zero-at (suc n) zero = refl
+zero-at (suc n) (suc b) = zero-at n b
+
 -- The age of a record.
 abbrev aged : List ℤ → List ℤ → List ℕ → ℕ → ℕ
 aged old new ranks b = ageBy (fateBy (getD old b (pos 0)) (getD new b (pos 0))) (getD ranks b 0)
 
-record RankedTo (old new : List ℤ) (ranks below l : List ℕ) (i : ℕ) : Type 0 where
-  inside : i ≤ records
+record RankedTo (n : ℕ) (old new : List ℤ) (ranks below l : List ℕ) (i : ℕ) : Type 0 where
+  inside : i ≤ n
   full : length l ≡ records
   told : (b : ℕ) → b < i → getD l b 0 ≡ getD below (aged old new ranks b) 0
+  zeros : (b : ℕ) → i ≤ b → getD l b 0 ≡ 0
 
 abbrev Inv-loop : tie.InvT-loop
-Inv-loop old new ranks below l₀ i₀ l i = RankedTo old new ranks below l i
+Inv-loop n old new ranks below l₀ i₀ l i = RankedTo n old new ranks below l i
 
 abbrev μ-loop : tie.MeasureT-loop
-μ-loop old new ranks below l₀ i₀ l i = records - i
+μ-loop n old new ranks below l₀ i₀ l i = n - i
 
 marks-of-requires : tie.Need-marks-of-requires Inv-loop μ-loop
-marks-of-requires c κs = c .before .pre .0
+marks-of-requires c κs = (c .before .pre .0, c .before .pre .2)
 
 slice-aggregate-sums-of : tie.Need-slice-aggregate-sums-of Inv-loop μ-loop
 slice-aggregate-sums-of c = search needs
@@ -68,7 +77,7 @@ more-told old new ranks below l i v room e H b h =
     ]) (ltb→lt b i) (nltb→le b i)
 
 loop-holds : tie.Need-loop-holds Inv-loop μ-loop
-loop-holds c = record { inside = search needs; full = refl; told = λ b h. absurd (omega arith) }
+loop-holds c = record { inside = search needs; full = refl; told = λ b h. absurd (omega arith); zeros = λ b h. zero-at records b }
 
 mul-age : tie.Need-mul-age Inv-loop μ-loop
 mul-age c = search needs
@@ -113,7 +122,19 @@ loop-again c =
       inside = search needs;
       full = length-set (l .l) (l .i) _ ∙ l .inv .full;
       told = more-told (a .old .now) (a .new .now) (a .ranks .now) below (l .l) (l .i) _ (omega (arith, l .inv .full)) (ap (λ k. getD below k 0) (found c)) (l .inv .told);
+      zeros = λ b h. getD-set-other (l .l) (l .i) b _ 0 (λ q. omega (arith, h, q)) ∙ l .inv .zeros b (omega (arith, h));
     }
+
+-- Past the slots no contact is live, and the rank is 0.
+rank-at : (old new : List ℤ) (ranks below l : List ℕ) (n : ℕ) → {m : ℕ} {flags : List ℕ} → Idle m new → n ≡ m → Sums flags below → ((b : ℕ) → b < n → getD l b 0 ≡ getD below (aged old new ranks b) 0)
+    → ((b : ℕ) → n ≤ b → getD l b 0 ≡ 0) → (b : ℕ) → b < records → getD l b 0 ≡ getD below (aged old new ranks b) 0
+rank-at old new ranks below l n {m} idle e sums told zeros b h =
+    (elim (ltb b n) as (λ d. (T d → b < n) → (T (not d) → n ≤ b) → getD l b 0 ≡ getD below (aged old new ranks b) 0) [
+      | true ↦ λ y k. told b (y tt)
+      | false ↦ λ y k.
+          let none = ap (λ v. ageBy (fateBy (getD old b (pos 0)) v) (getD ranks b 0)) (idle-at m new idle b (omega (arith, k tt, e)) h) in
+          zeros b (k tt) ∙ sym (ap (λ a. getD below a 0) none ∙ sums .first)
+    ]) (ltb→lt b n) (nltb→le b n)
 
 returns : tie.Need-returns Inv-loop μ-loop
 returns c =
@@ -124,7 +145,7 @@ returns c =
     let m = sums .before .before .marks-of .result in
     let em : length m ≡ records = search needs in
     summed (a .old .now) (a .new .now) (a .ranks .now) m (sums .sums-of .result) (l .l) (s .pre .0) (s .pre .1) em (sums .before .before .marks-of .ensures) (sums .sums-of .ensures) (l .inv .full)
-    (λ i h. l .inv .told i (omega arith))
+    (λ i h. rank-at (a .old .now) (a .new .now) (a .ranks .now) (sums .sums-of .result) (l .l) (l .i) (s .pre .2) (omega (arith, l .inv .inside, c .loop-test .left)) (sums .sums-of .ensures) (l .inv .told) (l .inv .zeros) i h)
 
 pub ranks-after-spec : {M : Type 1} → statement M
 ranks-after-spec =
