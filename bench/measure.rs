@@ -20,6 +20,8 @@ pub struct Bench {
     pub loads: &'static [&'static str],
     /// How many calls a pass makes.
     pub calls: u32,
+    /// How many frames, events or the like a pass handles, for what is handled each second.
+    pub things: fn(load: &str, n: u32) -> u64,
     /// A version's pass over a load with n slots. It leaves things as it found them, so that it can be made again.
     pub pass: fn(version: &str, load: &str, n: u32) -> Box<dyn FnMut()>,
     /// What was compared, or what differs.
@@ -28,7 +30,7 @@ pub struct Bench {
 
 impl Bench {
     /// bench compare: whether all versions answer the same. bench cases: each load, n and version, and the calls of a pass.
-    /// bench pass LOAD N VERSION: one pass in `measured`, for a profiler. bench count: the same for all cases, between marks. bench time: times as ratios.
+    /// bench pass LOAD N VERSION: one pass in `measured`, for a profiler. bench count: the same for all cases, between marks. bench time: how many things each version handles in a second.
     pub fn main(&self) {
         let args: Vec<String> = std::env::args().skip(1).collect();
         let words: Vec<&str> = args.iter().map(String::as_str).collect();
@@ -78,21 +80,19 @@ impl Bench {
         });
     }
 
-    /// The proved library's time over each version's: of the best rounds, and the median of all rounds with the middle half of them.
+    /// A line for each load, n and version: the things that it handles in a second, of its best round; and the last version's time over its own, round by round: the median, and the middle half.
     fn time(&self) {
         for load in self.loads {
             for n in SIZES {
                 let mut passes: Vec<_> = self.versions.iter().map(|v| (self.pass)(v, load, n)).collect();
                 let times = timed(&mut passes);
-                let (ours, others) = times.split_last().expect("a version");
-                print!("{load:13} {n:>3}");
-                for (version, theirs) in self.versions.iter().zip(others) {
-                    let best = sorted(ours.clone())[0] / sorted(theirs.clone())[0];
-                    let ratios = sorted(ours.iter().zip(theirs).map(|(a, b)| a / b).collect());
+                let last = times.last().expect("a version");
+                for (version, own) in self.versions.iter().zip(&times) {
+                    let rate = (self.things)(load, n) as f64 / sorted(own.clone())[0];
+                    let ratios = sorted(last.iter().zip(own).map(|(a, b)| a / b).collect());
                     let [low, median, high] = [1, 2, 3].map(|quarter| ratios[quarter * ROUNDS / 4]);
-                    print!("   /{version} {best:.2}, {median:.2} ({low:.2} to {high:.2})");
+                    println!("{load} {n} {version} {rate:.0} {median:.2} {low:.2} {high:.2}");
                 }
-                println!();
             }
         }
     }
@@ -103,7 +103,7 @@ fn sorted(mut numbers: Vec<f64>) -> Vec<f64> {
     numbers
 }
 
-/// The seconds of each pass in each round, each repeated as often.
+/// The seconds of one pass of each version in each round; all are repeated as often.
 fn timed(passes: &mut [Box<dyn FnMut()>]) -> Vec<Vec<f64>> {
     let mut repeats = 1;
     while seconds(&mut passes[0], repeats) < LEAST {
@@ -114,7 +114,7 @@ fn timed(passes: &mut [Box<dyn FnMut()>]) -> Vec<Vec<f64>> {
         // In turn, so that what slows the machine for a while slows all of them, and each round another one first.
         for turn in 0..passes.len() {
             let version = (round + turn) % passes.len();
-            times[version][round] = seconds(&mut passes[version], repeats);
+            times[version][round] = seconds(&mut passes[version], repeats) / repeats as f64;
         }
     }
     times

@@ -116,7 +116,13 @@ fn pass(version: &str, load: &str, n: u32) -> Box<dyn FnMut()> {
 
 fn main() {
     let versions = VERSIONS.iter().map(|v| v.name).collect();
-    let bench =
-        measure::Bench { versions, loads: &loads::LOADS, calls: loads::CALLS as u32, pass, compare: compare::all };
+    let bench = measure::Bench {
+        versions,
+        loads: &loads::LOADS,
+        calls: loads::CALLS as u32,
+        things: |_, _| loads::CALLS as u64,
+        pass,
+        compare: compare::all,
+    };
     bench.main();
 }

@@ -59,6 +59,15 @@ fn bytes_of(version: &str, load: &str, n: u32) -> Vec<u8> {
     }
 }
 
+/// What is handled: events, or one byte that ends none.
+fn things(load: &str, n: u32) -> u64 {
+    if load == "byte" {
+        1
+    } else {
+        loads::things(load, n)
+    }
+}
+
 fn pass(version: &str, load: &str, n: u32) -> Box<dyn FnMut()> {
     let bytes = bytes_of(version, load, n);
     let version = version.to_string();
@@ -94,5 +103,5 @@ fn compare() -> Result<String, String> {
 }
 
 fn main() {
-    measure::Bench { versions: vec!["run", "take"], loads: &LOADS, calls: 1, pass, compare }.main();
+    measure::Bench { versions: vec!["run", "take"], loads: &LOADS, calls: 1, things, pass, compare }.main();
 }

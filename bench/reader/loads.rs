@@ -33,6 +33,11 @@ pub fn records(load: &str, n: u32) -> Vec<u8> {
     calls(load, n).concat()
 }
 
+/// What is handled: events.
+pub fn things(load: &str, n: u32) -> u64 {
+    records(load, n).len() as u64 / 8
+}
+
 fn frame(load: &str, n: u32, f: u32) -> Vec<u8> {
     let abs = |code, value| record(3, code, value);
     let mut frame = match load {

@@ -54,5 +54,6 @@ fn pass(version: &str, load: &str, n: u32) -> Box<dyn FnMut()> {
 
 fn main() {
     let versions = VERSIONS.iter().map(|v| v.name).collect();
-    measure::Bench { versions, loads: &loads::LOADS, calls: 1, pass, compare: compare::all }.main();
+    measure::Bench { versions, loads: &loads::LOADS, calls: 1, things: loads::things, pass, compare: compare::all }
+        .main();
 }

@@ -115,5 +115,6 @@ fn compare() -> Result<String, String> {
 }
 
 fn main() {
-    measure::Bench { versions: NAMES.to_vec(), loads: &loads::LOADS, calls: 1, pass, compare }.main();
+    measure::Bench { versions: NAMES.to_vec(), loads: &loads::LOADS, calls: 1, things: loads::things, pass, compare }
+        .main();
 }

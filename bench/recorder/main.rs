@@ -163,5 +163,5 @@ fn compare() -> Result<String, String> {
 
 fn main() {
     let versions = VERSIONS.iter().map(|(name, ..)| *name).collect();
-    measure::Bench { versions, loads: &LOADS, calls: 1, pass, compare }.main();
+    measure::Bench { versions, loads: &LOADS, calls: 1, things: |_, n| n.into(), pass, compare }.main();
 }

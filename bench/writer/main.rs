@@ -62,7 +62,13 @@ fn pass(version: &str, load: &str, n: u32) -> Box<dyn FnMut()> {
 
 fn main() {
     let versions = VERSIONS.iter().map(|v| v.name).collect();
-    let bench =
-        measure::Bench { versions, loads: &loads::LOADS, calls: loads::FRAMES as u32, pass, compare: compare::all };
+    let bench = measure::Bench {
+        versions,
+        loads: &loads::LOADS,
+        calls: loads::FRAMES as u32,
+        things: loads::things,
+        pass,
+        compare: compare::all,
+    };
     bench.main();
 }

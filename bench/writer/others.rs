@@ -108,5 +108,13 @@ fn compare() -> Result<String, String> {
 
 fn main() {
     let versions = NAMES.to_vec();
-    measure::Bench { versions, loads: &loads::LOADS, calls: loads::FRAMES as u32, pass, compare }.main();
+    measure::Bench {
+        versions,
+        loads: &loads::LOADS,
+        calls: loads::FRAMES as u32,
+        things: loads::things,
+        pass,
+        compare,
+    }
+    .main();
 }
