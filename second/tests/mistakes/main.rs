@@ -53,118 +53,131 @@ impl On {
     }
 }
 
-/// After how many calls of a seed's script each mistake is noticed; `None` for one that is not.
-fn noticed(wrongs: &[Wrong], on: On, seed: u64) -> Vec<Option<usize>> {
-    let mut maker = Maker::with(seed, Request::ALL);
-    let mut after = vec![None; wrongs.len()];
-    for round in 1..=ROUNDS {
-        if after.iter().all(Option::is_some) {
-            break;
+/// Wrong programs of one kind. For each: after how many calls it is noticed, once it is.
+struct Group {
+    name: String,
+    on: On,
+    wrongs: Vec<Wrong>,
+    after: Vec<Option<usize>>,
+}
+
+impl Group {
+    fn new(name: impl Into<String>, on: On, wrongs: Vec<Wrong>) -> Group {
+        let after = vec![None; wrongs.len()];
+        Group { name: name.into(), on, wrongs, after }
+    }
+
+    /// Mistakes of readers, tried on the calls of the panel's reader or on those of the cranes'.
+    fn of_readers(name: &str, layout: Layout, wrongs: Vec<Wrong>) -> Group {
+        Group::new(format!("{name} ({layout:?})"), On::Readers(layout), wrongs)
+    }
+
+    fn is_noticed(&self) -> bool {
+        self.after.iter().all(Option::is_some)
+    }
+
+    fn look(&mut self, round: usize, asked: &Asked) {
+        if !self.on.has(asked.call) {
+            return;
         }
-        let line = maker.next_line();
-        let call = Call::parse(line.as_bytes());
-        if !on.has(call.as_ref()) {
-            continue;
-        }
-        let right = answer_line(line.as_bytes());
-        let asked = Asked { line: &line, call: call.as_ref(), right: &right };
-        for (wrong, after) in wrongs.iter().zip(&mut after) {
-            if after.is_none() && wrong.shows(&asked) {
+        for (wrong, after) in self.wrongs.iter().zip(&mut self.after) {
+            if after.is_none() && wrong.shows(asked) {
                 *after = Some(round);
             }
         }
     }
-    after
 }
 
-/// Tries a group of wrong programs; prints them, the slowest to be noticed first.
-fn all_are_noticed(group: &str, on: On, wrongs: Vec<Wrong>) {
-    let by_seed: Vec<_> = SEEDS.iter().map(|seed| noticed(&wrongs, on, *seed)).collect();
-    let mut slowest: Vec<(usize, &str)> = Vec::new();
-    let mut missed = Vec::new();
-    for (i, wrong) in wrongs.iter().enumerate() {
-        match by_seed.iter().map(|after| after[i]).collect::<Option<Vec<usize>>>() {
-            Some(rounds) => slowest.push((rounds.into_iter().max().unwrap_or(0), &wrong.name)),
-            None => missed.push(&wrong.name),
+fn groups() -> Vec<Group> {
+    let mut groups = vec![
+        Group::new("lines", On::All, lines::all()),
+        Group::new("writer's states", On::All, states::of_writers()),
+        Group::new("frames", On::All, frames::all()),
+        Group::new("pressures", On::All, pressures::of_writers()),
+        Group::new("gloves", On::All, gloves::of_writers()),
+        Group::of_readers("gloves", Layout::Crane, gloves::of_cranes()),
+        Group::new("wide", On::All, wide::of_writers()),
+        Group::of_readers("wide", Layout::Panel, wide::of_readers()),
+        Group::of_readers("wide", Layout::Crane, wide::of_cranes()),
+        Group::new("pieces", On::All, pieces::all()),
+        Group::new("sent", On::All, sent::all()),
+        Group::new("pods", On::All, pods::all()),
+        Group::new("recorder", On::All, recorder::all()),
+        Group::new("force", On::All, force::all()),
+        Group::new("commands", On::All, commands::all()),
+        Group::new("pointer", On::All, pointer::of_writers()),
+        Group::new("anonymous", On::All, anonymous::all()),
+    ];
+    for layout in Layout::ALL {
+        groups.extend([
+            Group::of_readers("reader's states", layout, states::of_readers(layout)),
+            Group::of_readers("records", layout, records::all(layout)),
+            Group::of_readers("losses", layout, losses::all()),
+            Group::of_readers("skips", layout, skips::all(layout)),
+            Group::of_readers("loads", layout, loads::all(layout)),
+            Group::of_readers("pressures", layout, pressures::of_readers()),
+            Group::of_readers("pointer", layout, pointer::of_readers()),
+        ]);
+    }
+    groups
+}
+
+/// Tries them on a seed's script, which is made once for all of them, until each mistake is noticed.
+fn try_all(groups: &mut [Group], seed: u64) {
+    let mut maker = Maker::with(seed, Request::ALL);
+    for round in 1..=ROUNDS {
+        if groups.iter().all(Group::is_noticed) {
+            break;
+        }
+        let line = maker.next_line();
+        let call = Call::parse(line.as_bytes());
+        let right = answer_line(line.as_bytes());
+        let asked = Asked { line: &line, call: call.as_ref(), right: &right };
+        groups.iter_mut().for_each(|group| group.look(round, &asked));
+    }
+}
+
+/// The groups, each with the most calls that a mistake took in any script; `None` where some script does not show it.
+fn slowest_of_all() -> Vec<Group> {
+    let tried = std::thread::scope(|scope| {
+        let seeds = SEEDS.map(|seed| {
+            scope.spawn(move || {
+                let mut groups = groups();
+                try_all(&mut groups, seed);
+                groups.into_iter().map(|group| group.after).collect::<Vec<_>>()
+            })
+        });
+        seeds.map(|seed| seed.join().expect("a seed's script"))
+    });
+    let mut groups = groups();
+    for (i, group) in groups.iter_mut().enumerate() {
+        for (j, after) in group.after.iter_mut().enumerate() {
+            let rounds: Option<Vec<usize>> = tried.iter().map(|by_seed| by_seed[i][j]).collect();
+            *after = rounds.and_then(|rounds| rounds.into_iter().max());
         }
     }
-    slowest.sort_by(|a, b| b.cmp(a));
-    for (rounds, name) in &slowest {
-        println!("{group}: noticed after {rounds:>6} calls: {name}");
+    groups
+}
+
+/// Prints each group, the slowest to be noticed first.
+#[test]
+fn each_is_noticed() {
+    let mut missed = Vec::new();
+    for Group { name, wrongs, after, .. } in slowest_of_all() {
+        let mut noticed: Vec<(usize, &str)> = Vec::new();
+        for (wrong, after) in wrongs.iter().zip(after) {
+            match after {
+                Some(rounds) => noticed.push((rounds, &wrong.name)),
+                None => missed.push(format!("{name}: {}", wrong.name)),
+            }
+        }
+        noticed.sort_by(|a, b| b.cmp(a));
+        for (rounds, wrong) in &noticed {
+            println!("{name}: noticed after {rounds:>6} calls: {wrong}");
+        }
+        println!("{name}: {} of {} wrong programs are noticed", noticed.len(), wrongs.len());
     }
-    println!("{group}: {} of {} wrong programs are noticed", slowest.len(), wrongs.len());
-    assert!(missed.is_empty(), "{group}: in {ROUNDS} calls not noticed: {missed:#?}");
-}
-
-/// Tries mistakes of readers on the calls of the panel's reader, and again on those of the cranes'.
-fn all_are_noticed_in_readers(group: &str, wrongs: fn(Layout) -> Vec<Wrong>) {
-    for layout in Layout::ALL {
-        all_are_noticed(&format!("{group} ({layout:?})"), On::Readers(layout), wrongs(layout));
-    }
-}
-
-#[test]
-fn of_lines() {
-    all_are_noticed("lines", On::All, lines::all());
-}
-
-#[test]
-fn of_readers_states() {
-    all_are_noticed_in_readers("reader's states", states::of_readers);
-}
-
-#[test]
-fn of_writers_states() {
-    all_are_noticed("writer's states", On::All, states::of_writers());
-}
-
-#[test]
-fn of_records() {
-    all_are_noticed_in_readers("records", records::all);
-}
-
-#[test]
-fn of_losses_and_counts() {
-    all_are_noticed_in_readers("losses", |_| losses::all());
-}
-
-#[test]
-fn of_skipped_records() {
-    all_are_noticed_in_readers("skips", skips::all);
-}
-
-#[test]
-fn of_loads_and_questions() {
-    all_are_noticed_in_readers("loads", loads::all);
-}
-
-#[test]
-fn of_frames_and_room() {
-    all_are_noticed("frames", On::All, frames::all());
-}
-
-#[test]
-fn of_pressures() {
-    all_are_noticed("pressures", On::All, pressures::of_writers());
-    all_are_noticed_in_readers("pressures", |_| pressures::of_readers());
-}
-
-#[test]
-fn of_gloves() {
-    all_are_noticed("gloves", On::All, gloves::of_writers());
-    all_are_noticed("gloves", On::Readers(Layout::Crane), gloves::of_cranes());
-}
-
-#[test]
-fn of_wide_panels() {
-    all_are_noticed("wide", On::All, wide::of_writers());
-    all_are_noticed("wide", On::Readers(Layout::Panel), wide::of_readers());
-    all_are_noticed("wide", On::Readers(Layout::Crane), wide::of_cranes());
-}
-
-#[test]
-fn of_pieces() {
-    all_are_noticed("pieces", On::All, pieces::all());
+    assert!(missed.is_empty(), "in {ROUNDS} calls not noticed: {missed:#?}");
 }
 
 #[test]
@@ -174,42 +187,6 @@ fn of_headers() {
         println!("headers: noticed in inputs {noticed:?}: {}", wrong.name);
         assert!(noticed.is_some(), "in {} inputs not noticed: {}", headers::INPUTS, wrong.name);
     }
-}
-
-#[test]
-fn of_what_is_sent() {
-    all_are_noticed("sent", On::All, sent::all());
-}
-
-#[test]
-fn of_pods() {
-    all_are_noticed("pods", On::All, pods::all());
-}
-
-#[test]
-fn of_recordings() {
-    all_are_noticed("recorder", On::All, recorder::all());
-}
-
-#[test]
-fn of_force_sticks() {
-    all_are_noticed("force", On::All, force::all());
-}
-
-#[test]
-fn of_commands() {
-    all_are_noticed("commands", On::All, commands::all());
-}
-
-#[test]
-fn of_pointers() {
-    all_are_noticed("pointer", On::All, pointer::of_writers());
-    all_are_noticed_in_readers("pointer", |_| pointer::of_readers());
-}
-
-#[test]
-fn of_anonymous_panels() {
-    all_are_noticed("anonymous", On::All, anonymous::all());
 }
 
 /// Without a mistake the ways to answer wrongly answer right; else what is noticed might be theirs.
@@ -228,5 +205,8 @@ fn without_a_mistake_nothing_is_noticed() {
     right.extend(commands::right());
     right.extend(pointer::right());
     right.extend(anonymous::right());
-    assert_eq!(noticed(&right, On::All, 4), vec![None; right.len()]);
+    let mut groups = [Group::new("right", On::All, right)];
+    try_all(&mut groups, 4);
+    let [Group { after, .. }] = groups;
+    assert_eq!(after, vec![None; after.len()]);
 }

@@ -1,5 +1,4 @@
 //! What several tests use: the sheet's panel, tables from plain numbers, and a frame written with room to spare.
-#![allow(dead_code)]
 
 pub mod pairings;
 

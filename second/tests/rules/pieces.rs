@@ -1,8 +1,6 @@
 //! K5: bytes as the line delivers them. However a byte string is cut, the end state, the sums of the counts and what is left over are those of its whole records.
 
-mod common;
-
-use common::*;
+use crate::common::*;
 use second::events::*;
 use second::maker::Maker;
 use second::pieces::{PieceReader, LEFT_OVER};

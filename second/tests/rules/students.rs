@@ -1,8 +1,6 @@
 //! The errors that students bring, and those of the peers: each test fails for a program that makes one of them.
 
-mod common;
-
-use common::*;
+use crate::common::*;
 use second::events::*;
 use second::pod::{Pod, Report, Stick};
 use second::reader::{Asked, Mode, Ran, Reader};

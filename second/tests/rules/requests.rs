@@ -1,8 +1,6 @@
 //! What the requests of document 02 ask: each test fails for a program that knows document 01 alone, or that reads the request otherwise.
 
-mod common;
-
-use common::*;
+use crate::common::*;
 use second::events::*;
 use second::pod::{Pod, Report};
 use second::reader::{Asked, Mode, Ran, Reader};

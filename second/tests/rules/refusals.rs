@@ -1,8 +1,6 @@
 //! When we say no: each refusal where it must be given, the order of judging, and the state left as it came.
 
-mod common;
-
-use common::*;
+use crate::common::*;
 use second::events::Event;
 use second::pod::{Pod, Report};
 use second::reader::{Asked, Mode, Ran, Reader};

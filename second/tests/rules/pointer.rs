@@ -1,12 +1,10 @@
 //! K6, pointer emulation: the kept examples worked out by hand, each rule, and a display that hears nothing but the events.
 
-mod common;
-
 use std::collections::BTreeMap;
 use std::fs;
 use std::path::PathBuf;
 
-use common::{panel, slot, write, writer};
+use crate::common::{panel, slot, write, writer};
 use second::events::*;
 use second::pointer::{Pointer, Told};
 use second::programs::{run, WITH_POINTER};

@@ -1,8 +1,6 @@
 //! K1: touch sizes in frames, records and loads, and the cranes' reader, which skips them.
 
-mod common;
-
-use common::*;
+use crate::common::*;
 use second::events::*;
 use second::maker::Maker;
 use second::random::Random;

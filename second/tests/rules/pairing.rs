@@ -1,8 +1,6 @@
 //! K12, who is who: the fast way held against every pairing, on grids where ties are many, with more old contacts than new ones and the other way round.
 
-mod common;
-
-use common::pairings::{place, Best};
+use crate::common::pairings::{place, Best};
 use second::pairing::{pairing, squared, Pairing, Place, MOST_CONTACTS, NONE};
 use second::random::Random;
 use second::table::SLOTS;

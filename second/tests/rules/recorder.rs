@@ -1,8 +1,6 @@
 //! K2, the shift recorder: blocks worked out by hand, and what must hold of every block.
 
-mod common;
-
-use common::bytes;
+use crate::common::bytes;
 use second::events::*;
 use second::random::Random;
 use second::recorder::*;

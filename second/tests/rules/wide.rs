@@ -1,8 +1,6 @@
 //! K7: panels of up to 32 slots, a number of the changed slots that has 32 bits, and cranes that keep their 16.
 
-mod common;
-
-use common::*;
+use crate::common::*;
 use second::events::*;
 use second::random::Random;
 use second::reader::{Asked, Mode, Ran, Reader};

@@ -1,9 +1,7 @@
 //! K12, anonymous panels: the named cases, worked out by hand, and each rule of a frame.
 
-mod common;
-
-use common::pairings::{place, Best};
-use common::{bytes, in_bytes, panel, slot, writer};
+use crate::common::pairings::{place, Best};
+use crate::common::{bytes, in_bytes, panel, slot, writer};
 use second::brief::expand;
 use second::events::*;
 use second::pairing::{Place, NONE};
@@ -25,7 +23,7 @@ fn sent(answer: &str, position: usize) -> Vec<u8> {
 /// What is said to be sent in the name of a case is sent, and a case without is refused with the number in its name.
 #[test]
 fn the_named_cases() {
-    let script = expand(include_str!("../cases_anonymous.txt")).unwrap();
+    let script = expand(include_str!("../../cases_anonymous.txt")).unwrap();
     let (mut name, mut seen) = ("", [0; 2]);
     for line in script.lines().filter(|line| !line.is_empty()) {
         if line.starts_with('#') {

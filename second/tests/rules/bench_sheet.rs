@@ -1,8 +1,6 @@
 //! Document 01's bench sheet, row by row, the expected numbers copied from the paper.
 
-mod common;
-
-use common::*;
+use crate::common::*;
 use second::events::Event;
 use second::pod::{Pod, Report, Stick};
 use second::programs::{crane_table, show_table};

@@ -1,11 +1,9 @@
 //! The kept examples of `write_anonymous`: what each is to write and to say was worked out by hand.
 
-mod common;
-
 use std::fs;
 use std::path::PathBuf;
 
-use common::in_bytes;
+use crate::common::in_bytes;
 use second::programs::run;
 use second::records::decode;
 use second::streams::Status;

@@ -1,8 +1,6 @@
 //! What must hold of every call, tried on random scripts: what is sent reads back, counts fit, refusals change nothing.
 
-mod common;
-
-use common::bytes;
+use crate::common::bytes;
 use second::events::*;
 use second::maker::Maker;
 use second::reader::{Mode, Ran, Reader};
@@ -172,7 +170,7 @@ fn runs_are_their_records_one_after_the_other() {
 
 #[test]
 fn all_slots_land_in_the_most_events() {
-    let setup = common::panel(SLOTS as u64);
+    let setup = crate::common::panel(SLOTS as u64);
     assert_eq!((MOST_CONTACT_EVENTS, MOST_EVENTS, LARGEST_FRAME), (224, 228, 1_824));
     for (pointer, most) in [(false, MOST_CONTACT_EVENTS), (true, MOST_EVENTS)] {
         let mut writer = Writer::fresh(setup, pointer).unwrap();

@@ -3,14 +3,14 @@
 use second::brief::expand;
 use second::script::{answer_line, is_passed_over, Call, BAD_LINE, WRITER_NUMBERS};
 
-const CASES: &str = include_str!("../cases.txt");
+const CASES: &str = include_str!("../../cases.txt");
 /// Those of the requests that `drive` did not always know.
 const LATER: [&str; 5] = [
-    include_str!("../cases_recorder.txt"),
-    include_str!("../cases_force.txt"),
-    include_str!("../cases_commands.txt"),
-    include_str!("../cases_pointer.txt"),
-    include_str!("../cases_anonymous.txt"),
+    include_str!("../../cases_recorder.txt"),
+    include_str!("../../cases_force.txt"),
+    include_str!("../../cases_commands.txt"),
+    include_str!("../../cases_pointer.txt"),
+    include_str!("../../cases_anonymous.txt"),
 ];
 
 #[test]
