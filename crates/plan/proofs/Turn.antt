@@ -3,7 +3,7 @@
 use mathlib.Core.Path.{_≡_, refl, sym, ap, ap₂, _∙_}
 use mathlib.Core.Bool.{Bool, true, false, not, cond, _&&_, _||_}
 use mathlib.Core.List.{List, [], _∷_, _++_, append-assoc, map-append}
-use Prim.Native.Nat.{ℕ, zero, suc, _+_, _-_, _*_, _<_, _≤_}
+use Prim.Native.Nat.{ℕ, suc, _+_, _-_, _*_, _<_, _≤_}
 use native.Mathlib.Numerals.{add-one}
 use native.Mathlib.Omega.{arith}
 use lib.Dec.{eqb, leb, leb→le}
@@ -14,16 +14,16 @@ use lib.Signed.{leZ}
 use borrow.Author.Tests.{ne-eqb}
 use Rattle.model.specs.Panel.{Axis, base, axisFields, perSlot}
 use Rattle.model.specs.Numbers.{eqZ, betweenZ}
-use Rattle.model.specs.Table.{Table, idOf, numbersOf, ids, live}
+use Rattle.model.specs.Table.{Table, numbersOf, ids, live}
 use Rattle.model.specs.Records.{bitsOf}
 use Rattle.model.specs.Frame.{numbersFrom, rowsFrom, kindOf, goodContact, goodRow, goodRows, Fate, none, goesOn, begins, fate}
-use Rattle.model.specs.Frame.{freeId, slotAfter, takenAfter, counterAfter, Planned, after, planned, newTable}
+use Rattle.model.specs.Frame.{freeId, slotAfter, takenAfter, counterAfter, Planned, after, planned}
 use Rattle.model.proofs.Bools.{holds, and-left, and-right}
 use Rattle.model.proofs.Rows.{rows-next, rows-none}
 use Rattle.model.proofs.Tries.{Same, planned-same}
 use Rattle.panel.specs.declared.Slot as S
 use Rattle.panel.specs.declared.Setup.{Setup}
-use Rattle.panel.specs.Seen.{slotOf, tableOf, setupOf, axesOf, blank, sameFrom}
+use Rattle.panel.specs.Seen.{slotOf, tableOf, setupOf, axesOf, blank}
 use Rattle.panel.proofs.Tables.{rest-is}
 use Rattle.plan.specs.Row.{begun, contactOf, stayed, unsigned, plainRow}
 use Rattle.plan.specs.Walk.{planFrom}
@@ -130,26 +130,6 @@ gives-pressure u was f at e good same =
     let pressure = and-left (betweenZ (pos 0) (pos (u .pressure)) (pos (was .pressure)) && leb 1 (was .pressure)) _ rest in
     let some = leb→le 1 (was .pressure) (holds _ (and-right (betweenZ (pos 0) (pos (u .pressure)) (pos (was .pressure))) _ pressure)) in
     ap not (ne-eqb (was .pressure) 0 (λ z. omega (arith, some, z)))
-
--- Of a kind that is not 0, where nothing begins: the kind is not 2, and the slot is live.
-pub goes-on : (k id : ℤ) → eqZ k (pos 0) ≡ false → begun (fate k id) ≡ false → (eqZ k (pos 2) ≡ false) × (live id ≡ true)
-goes-on k id = by (eqZ k (pos 0)) (eqZ k (pos 2)) (live id)
-  where
-    by : (k0 k2 lives : Bool) → k0 ≡ false → begun (fateBy k0 k2 lives) ≡ false → (k2 ≡ false) × (lives ≡ true)
-    by true k2 lives e f = let z : _≡_ {A = ℕ} 0 1 = cc in absurd (omega arith)
-    by false true lives e f = let z : _≡_ {A = ℕ} 0 1 = cc in absurd (omega arith)
-    by false false true e f = (refl, refl)
-    by false false false e f = let z : _≡_ {A = ℕ} 0 1 = cc in absurd (omega arith)
-
--- So it is 1 where the row is good.
-pub kind-1 : (u : Setup) (g : List ℤ) → eqZ (kindOf g) (pos 0) ≡ false → eqZ (kindOf g) (pos 2) ≡ false → goodRow (axesOf u) g ≡ true → eqZ (kindOf g) (pos 1) ≡ true
-kind-1 u g e z good =
-    let known = and-left (eqZ (kindOf g) (pos 1) || eqZ (kindOf g) (pos 2)) _ (contact-of u g e good) in
-    sym (or-none (eqZ (kindOf g) (pos 1)) (eqZ (kindOf g) (pos 2)) z) ∙ known
-  where
-    or-none : (a b : Bool) → b ≡ false → (a || b) ≡ a
-    or-none true b f = refl
-    or-none false b f = f
 
 pub begun-taken : (f : Fate) (j : ℕ) (l : List ℤ) → begun f ≡ true → takenAfter f j l ≡ pos j ∷ l
 begun-taken f j l e = ap (λ g. takenAfter g j l) (is-begun f e)

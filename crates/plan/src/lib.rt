@@ -320,26 +320,13 @@ pub fn plan_frame(
     while s < n {
         let r = panel::row_at(frame, PER_SLOT * s);
         let was = t[s];
-        if common::same(r.first, 0) {
-            let w = lift(was);
-            t[s] = w;
-            changes = tally::with_slot(changes, SlotNumber(s), tally::differ(was, w));
-            s += 1;
-        } else {
-            let id = was.id;
+        let id = was.id;
+        if common::same(r.first, 1) & !common::same(id.0, TrackingId::UNUSED) {
             let w = contact(id, r);
             let d = tally::differ(was, w);
-            if (d == 0)
-                & common::same(r.first, 1)
-                & !common::same(id.0, TrackingId::UNUSED)
-                & (was.pressure != 0)
-            {
+            if (d == 0) & (was.pressure != 0) {
                 s += 1;
             } else {
-                if begins(r.first, id) {
-                    let from = Reached { slot: s, changes };
-                    return give_ids(setup, old, t, counter, frame, from);
-                }
                 if !frame::row_ok(setup, r) {
                     return refused(old, counter);
                 }
@@ -347,6 +334,15 @@ pub fn plan_frame(
                 changes = tally::with_changed(changes, SlotNumber(s), d);
                 s += 1;
             }
+        } else {
+            if !common::same(r.first, 0) {
+                let from = Reached { slot: s, changes };
+                return give_ids(setup, old, t, counter, frame, from);
+            }
+            let w = lift(was);
+            t[s] = w;
+            changes = tally::with_slot(changes, SlotNumber(s), tally::differ(was, w));
+            s += 1;
         }
     }
     Planned {

@@ -1,9 +1,9 @@
 -- `plan::plan_frame` judges the rows of a frame, makes its table and counter and tells what changes, up to the first contact that begins; the rest is `give_ids`'. Assumes nothing.
 use borrow.Author.Needs.{needs}
 use borrow.Author.Tests.{eq-eqb, not-true, not-false}
-use mathlib.Core.Path.{_≡_, refl, sym, ap, ap₂, subst, _∙_}
-use mathlib.Core.Bool.{Bool, true, false, not, cond, _&&_, false≢true}
-use mathlib.Core.List.{List, [], _∷_}
+use mathlib.Core.Path.{_≡_, refl, sym, ap, subst, _∙_}
+use mathlib.Core.Bool.{true, false, not, cond, _&&_, false≢true}
+use mathlib.Core.List.{List}
 use Prim.Native.Nat.{ℕ, _<_, _≤_, _+_, _-_, _*_}
 use native.Mathlib.Omega.{arith}
 use lib.Dec.{eqb, eqb→eq}
@@ -13,12 +13,12 @@ use lib.Seq.{set-getD}
 use mir.Syntax.{w32}
 use mir.Val.{SFits, ofZ, toZ}
 use mir.ValLaws.{toZ-ofZ}
-use Rattle.model.specs.Panel.{base, setupGood, idCount, perSlot, records}
+use Rattle.model.specs.Panel.{base, setupGood, perSlot, records}
 use Rattle.model.specs.Numbers.{eqZ, minusOne}
 use Rattle.model.specs.Table.{ids, live, numbersOf, goodSlot}
 use Rattle.model.specs.Frame.{Fate, kindOf, goodRow, goodRows, valuesGood, none, goesOn, begins, fate, freeId, rowsFrom, slotAfter, framed, Planned}
 use Rattle.model.specs.Sending.{changedIn}
-use Rattle.model.proofs.Bools.{holds, and-left, and-right}
+use Rattle.model.proofs.Bools.{holds, and-left, and-right, eqZ→eq}
 use Rattle.model.proofs.Count.{none-changed}
 use Rattle.model.proofs.Rows.{rows-none}
 use Rattle.common.proofs.Signs.{first-false, first-true, or-true}
@@ -34,7 +34,7 @@ use Rattle.plan.specs.Quiet.{Of32}
 use Rattle.plan.specs.Walk.{rowsGood, planFrom, PlansBy}
 use Rattle.plan.proofs.Still.{resting, same-by, slot-good, same-slot}
 use Rattle.plan.proofs.Turn as Turn
-use Rattle.plan.proofs.Turn.{good-plain, stayed-slot, gives-pressure, goes-on, kind-1}
+use Rattle.plan.proofs.Turn.{good-plain, stayed-slot, gives-pressure}
 use Rattle.plan.proofs.Skipped.{skipped}
 use Rattle.plan.proofs.plan_frame.Statement.{statement}
 use Rattle.plan.proofs.plan_frame.Tie as tie
@@ -55,12 +55,15 @@ abbrev μ-loop : tie.MeasureT-loop
 
 -- ---- places
 
--- Where all arms of the loop start: slot s and its row's kind are read, and it is known whether that is 0.
+-- Where all arms of the loop start: slot s and its row are read, and it is known whether the kind is 1 and whether the slot is unused.
 abbrev Row : Type 0
-Row = tie.After-same Inv-loop μ-loop
+Row = tie.After-same2 Inv-loop μ-loop
+
+abbrev kinds : Row → tie.After-same Inv-loop μ-loop
+kinds b = b .before .before
 
 abbrev lent : Row → tie.After-row-at Inv-loop μ-loop
-lent b = b .before .before .before
+lent b = kinds b .before .before .before .before
 
 abbrev turn : Row → tie.In-loop Inv-loop μ-loop
 turn b = lent b .before
@@ -71,36 +74,36 @@ top b = turn b .before
 abbrev start : Row → tie.Start Inv-loop μ-loop
 start b = top b .before .before
 
--- Where the kind is not 0, and it is known how many numbers change if the contact goes on.
+-- Where a contact goes on, and it is known how many numbers change.
 abbrev Compared : Type 0
-Compared = tie.After-differ2 Inv-loop μ-loop
+Compared = tie.After-differ Inv-loop μ-loop
 
-abbrev other : Compared → tie.Else1 Inv-loop μ-loop
-other d = d .before .before .before
+abbrev on-going : Compared → tie.Then1 Inv-loop μ-loop
+on-going d = d .before .before
 
 abbrev here : Compared → Row
-here d = other d .before
+here d = on-going d .before
 
--- Where the contact rests, and where it does not.
+-- Where it rests, and where it does not.
 abbrev calm : tie.Then2 Inv-loop μ-loop → Compared
-calm c = c .before .before .before .before .before .before
+calm c = c .before .before
 
 abbrev loud : tie.Else2 Inv-loop μ-loop → Compared
-loud e = e .before .before .before .before .before .before
+loud e = e .before .before
 
--- Where it is known whether a contact begins.
-abbrev unrest : tie.After-begins Inv-loop μ-loop → tie.Else2 Inv-loop μ-loop
-unrest c = c .before .before
-
--- Where none does, and the row is judged.
+-- Where it does not, and the row is judged.
 abbrev Judged : Type 0
 Judged = tie.After-row-ok Inv-loop μ-loop
 
-abbrev going : Judged → tie.Else3 Inv-loop μ-loop
-going j = j .before
-
 abbrev moved : Judged → Compared
-moved j = loud (unrest (going j .before))
+moved j = loud (j .before)
+
+-- Where none goes on, and it is known whether the kind is 0.
+abbrev Other : Type 0
+Other = tie.After-same3 Inv-loop μ-loop
+
+abbrev there : Other → Row
+there o = o .before .before .before
 
 -- ---- slot s and its row
 
@@ -175,8 +178,17 @@ own-kind b =
     let f : SFits w32 k = search needs in
     toZ-ofZ w32 k f ∙ ap kindOf (lent b .row-at .ensures)
 
-kind-read : (b : Row) → b .same .result ≡ eqZ (kind b) (pos 0)
-kind-read b = b .same .ensures ∙ ap (λ z. eqZ z (pos 0)) (own-kind b)
+-- What the tests of its kind and of the slot's id say.
+kind-read-1 : (b : Row) → kinds b .same .result ≡ eqZ (kind b) (pos 1)
+kind-read-1 b = kinds b .same .ensures ∙ ap (λ z. eqZ z (pos 1)) (own-kind b)
+
+id-read : (b : Row) → b .same2 .result ≡ eqZ (was b .id .0) minusOne
+id-read b =
+    let f : SFits w32 (was b .id .0) = search needs in
+    b .same2 .ensures ∙ ap (λ z. eqZ z minusOne) (toZ-ofZ w32 (was b .id .0) f)
+
+kind-read-0 : (o : Other) → o .same3 .result ≡ eqZ (kind (there o)) (pos 0)
+kind-read-0 o = o .same3 .ensures ∙ ap (λ z. eqZ z (pos 0)) (own-kind (there o))
 
 -- The row's numbers are of 32 bits.
 fitting : (c : tie.After-row-at Inv-loop μ-loop) → Of32 (rowOf (c .row-at .result))
@@ -221,66 +233,53 @@ counted b w e stays good d f c ec =
 
 -- ---- a contact that goes on
 
--- What the tests of its kind and of its id say.
-kind-read-1 : (k : tie.After-same2 Inv-loop μ-loop) → k .same2 .result ≡ eqZ (kind (here (k .before .before))) (pos 1)
-kind-read-1 k = k .same2 .ensures ∙ ap (λ z. eqZ z (pos 1)) (own-kind (here (k .before .before)))
+kind-1 : (d : Compared) → eqZ (kind (here d)) (pos 1) ≡ true
+kind-1 d = sym (kind-read-1 (here d)) ∙ and-left (kinds (here d) .same .result) _ (on-going d .if1 .taken)
 
-id-read : (k : tie.After-same3 Inv-loop μ-loop) → (let b = here (k .before .before .before .before) in k .same3 .result ≡ eqZ (was b .id .0) minusOne)
-id-read k =
-    let b = here (k .before .before .before .before) in
-    let f : SFits w32 (was b .id .0) = search needs in
-    k .same3 .ensures ∙ ap (λ z. eqZ z minusOne) (toZ-ofZ w32 (was b .id .0) f)
+lives : (d : Compared) → live (was (here d) .id .0) ≡ true
+lives d = sym (ap not (id-read (here d))) ∙ and-right (kinds (here d) .same .result) _ (on-going d .if1 .taken)
+
+is-1 : (d : Compared) → kind (here d) ≡ pos 1
+is-1 d = eqZ→eq (kind (here d)) (pos 1) (holds _ (kind-1 d))
 
 not-0 : (d : Compared) → eqZ (kind (here d)) (pos 0) ≡ false
-not-0 d = sym (kind-read (here d)) ∙ other d .if1 .left
+not-0 d = ap (λ z. eqZ z (pos 0)) (is-1 d)
+
+not-begun : (d : Compared) → begun (becomes (here d)) ≡ false
+not-begun d = ap (λ z. begun (fate z (was (here d) .id .0))) (is-1 d) ∙ ap (λ z. begun (cond z goesOn begins)) (lives d)
 
 -- What it becomes.
 on : (d : Compared) → d .before .contact .result ≡ contactOf (was (here d) .id .0) (row (here d))
 on d = d .before .contact .ensures ∙ ap (contactOf (was (here d) .id .0)) (lent (here d) .row-at .ensures)
 
 -- Where no number changes it is what it was.
-as-was : (d : Compared) → d .differ2 .result ≡ 0 → slotOf (was (here d)) ≡ slotOf (contactOf (was (here d) .id .0) (row (here d)))
-as-was d z = none-changed (slotOf (was (here d))) (slotOf (d .before .contact .result)) tt (sym (d .differ2 .ensures .1) ∙ z) ∙ ap slotOf (on d)
-
-begins-is : (c : tie.After-begins Inv-loop μ-loop) → (let b = here (loud (unrest c)) in c .begins .result ≡ begun (becomes b))
-begins-is c =
-    let b = here (loud (unrest c)) in
-    c .begins .ensures ∙ ap (λ z. begun (fate z (was b .id .0))) (own-kind b)
-
-not-begun : (j : Judged) → begun (becomes (here (moved j))) ≡ false
-not-begun j = sym (begins-is (going j .before)) ∙ going j .if3 .left
+as-was : (d : Compared) → d .differ .result ≡ 0 → slotOf (was (here d)) ≡ slotOf (contactOf (was (here d) .id .0) (row (here d)))
+as-was d z = none-changed (slotOf (was (here d))) (slotOf (d .before .contact .result)) tt (sym (d .differ .ensures .1) ∙ z) ∙ ap slotOf (on d)
 
 row-judged : (j : Judged) → (let b = here (moved j) in j .row-ok .result ≡ goodRow (axesOf (u b)) (row b))
 row-judged j =
     let b = here (moved j) in
     j .row-ok .ensures ∙ ap (goodRow (axesOf (u b))) (lent b .row-at .ensures)
 
-good-row : (e : tie.Else4 Inv-loop μ-loop) → (let b = here (moved (e .before)) in goodRow (axesOf (u b)) (row b) ≡ true)
-good-row e = sym (row-judged (e .before)) ∙ not-false (e .before .row-ok .result) (e .if4 .left)
+good-row : (e : tie.Else3 Inv-loop μ-loop) → (let b = here (moved (e .before)) in goodRow (axesOf (u b)) (row b) ≡ true)
+good-row e = sym (row-judged (e .before)) ∙ not-false (e .before .row-ok .result) (e .if3 .left)
 
-on-slot : (e : tie.Else4 Inv-loop μ-loop) → (let d = moved (e .before) in let b = here d in slotOf (d .before .contact .result) ≡ slotAfter (becomes b) (given b) (slotOf (was b)) (numbersOf (row b)))
+on-slot : (e : tie.Else3 Inv-loop μ-loop) → (let d = moved (e .before) in let b = here d in slotOf (d .before .contact .result) ≡ slotAfter (becomes b) (given b) (slotOf (was b)) (numbersOf (row b)))
 on-slot e =
     let d = moved (e .before) in
     let b = here d in
     let w = on d ∙ sym (ap (λ z. stayed z (was b) (row b)) (not-0 d)) in
-    ap slotOf w ∙ stayed-slot (was b) (fr b) (perSlot * s b) (given b) (not-begun (e .before)) (good-plain (u b) (row b) (good-row e))
+    ap slotOf w ∙ stayed-slot (was b) (fr b) (perSlot * s b) (given b) (not-begun d) (good-plain (u b) (row b) (good-row e))
 
 -- A good row that is not at rest changes a number.
-some : (e : tie.Else4 Inv-loop μ-loop) → moved (e .before) .differ2 .result ≡ 0 → ⊥
+some : (e : tie.Else3 Inv-loop μ-loop) → moved (e .before) .differ .result ≡ 0 → ⊥
 some e z =
-    let l = unrest (going (e .before) .before) in
-    let lives = l .before .before in
-    let kinds = lives .before .before in
     let d = moved (e .before) in
     let b = here d in
-    let g = goes-on (kind b) (was b .id .0) (not-0 d) (not-begun (e .before)) in
-    let k1 = kind-read-1 kinds ∙ kind-1 (u b) (row b) (not-0 d) (g .0) (good-row e) in
-    let alive = ap not (id-read lives) ∙ g .1 in
     let pressed = gives-pressure (u b) (was b) (fr b) (perSlot * s b) (not-0 d) (good-row e) (as-was d z) in
-    let zero = eq-eqb (d .differ2 .result) 0 z in
-    let test : (((eqb (d .differ2 .result) 0 && kinds .same2 .result) && not (lives .same3 .result)) && not (eqb (was b .pressure) 0)) ≡ true =
-    λ i. ((zero i && k1 i) && alive i) && pressed i in
-    absurd (false≢true (sym (l .if2 .left) ∙ test))
+    let zero = eq-eqb (d .differ .result) 0 z in
+    let test : (eqb (d .differ .result) 0 && not (eqb (was b .pressure) 0)) ≡ true = λ i. zero i && pressed i in
+    absurd (false≢true (sym (e .before .before .if2 .left) ∙ test))
 
 -- ---- the needs
 
@@ -325,116 +324,57 @@ array-copy-out-was c =
 same-requires : tie.Need-same-requires Inv-loop μ-loop
 same-requires c κs = search needs
 
-lift-requires : tie.Need-lift-requires Inv-loop μ-loop
-lift-requires c κs = search needs
-
-mul-t : tie.Need-mul-t Inv-loop μ-loop
-mul-t c = omega (arith, below (c .before .before), few (c .before .before))
-
-array-set-from-t : tie.Need-array-set-from-t Inv-loop μ-loop
-array-set-from-t c = omega (arith, below (c .before .before), few (c .before .before))
-
-differ-requires : tie.Need-differ-requires Inv-loop μ-loop
-differ-requires c κs = search needs
-
-with-slot-requires : tie.Need-with-slot-requires Inv-loop μ-loop
-with-slot-requires c κs =
-    let b = c .before .before .before in
-    (omega (arith, below b, few b), c .differ .ensures .0, known b .tells .before)
-
-add-s : tie.Need-add-s Inv-loop μ-loop
-add-s c =
-    let b = c .before .before .before .before in
-    omega (arith, below b, few b)
-
-loop-less : tie.Need-loop-less Inv-loop μ-loop
-loop-less c = omega (arith, below (c .before .before .before .before))
-
-loop-again : tie.Need-loop-again Inv-loop μ-loop
-loop-again c =
-    let m = c .before .before in
-    let b = m .before .before in
-    let is-0 : eqZ (kind b) (pos 0) ≡ true = sym (kind-read b) ∙ m .before .if1 .taken in
-    let lives = live (was b .id .0) in
-    let no-contact = ap (λ z. begun (cond z none (cond (eqZ (kind b) (pos 2)) begins (cond lives goesOn begins)))) is-0 in
-    let slot = ap slotOf (m .lift .ensures) ∙ sym (ap (λ z. slotAfter (cond z none (cond (eqZ (kind b) (pos 2)) begins (cond lives goesOn begins))) (given b) (slotOf (was b)) (numbersOf (row b))) is-0) in
-    counted b (m .lift .result) slot no-contact (or-true _ _ is-0) (c .before .differ .result) (c .before .differ .ensures) (c .with-slot .result) (c .with-slot .ensures)
+same-requires-2 : tie.Need-same-requires-2 Inv-loop μ-loop
+same-requires-2 c κs = search needs
 
 contact-requires : tie.Need-contact-requires Inv-loop μ-loop
 contact-requires c κs = search needs
 
-differ-requires-2 : tie.Need-differ-requires-2 Inv-loop μ-loop
-differ-requires-2 c κs = search needs
+differ-requires : tie.Need-differ-requires Inv-loop μ-loop
+differ-requires c κs = search needs
 
-same-requires-2 : tie.Need-same-requires-2 Inv-loop μ-loop
-same-requires-2 c κs = search needs
-
-same-requires-3 : tie.Need-same-requires-3 Inv-loop μ-loop
-same-requires-3 c κs = search needs
-
-add-s-2 : tie.Need-add-s-2 Inv-loop μ-loop
-add-s-2 c =
+add-s : tie.Need-add-s Inv-loop μ-loop
+add-s c =
     let b = here (calm c) in
     omega (arith, below b, few b)
 
-loop-less-2 : tie.Need-loop-less-2 Inv-loop μ-loop
-loop-less-2 c = omega (arith, below (here (calm c)))
+loop-less : tie.Need-loop-less Inv-loop μ-loop
+loop-less c = omega (arith, below (here (calm c)))
 
-loop-again-2 : tie.Need-loop-again-2 Inv-loop μ-loop
-loop-again-2 c =
-    let lives = c .before .before in
-    let kinds = lives .before .before in
+loop-again : tie.Need-loop-again Inv-loop μ-loop
+loop-again c =
     let d = calm c in
     let b = here d in
-    let pressed = and-right ((eqb (d .differ2 .result) 0 && kinds .same2 .result) && not (lives .same3 .result)) _ (c .if2 .taken) in
-    let others = and-left ((eqb (d .differ2 .result) 0 && kinds .same2 .result) && not (lives .same3 .result)) _ (c .if2 .taken) in
-    let alive = sym (ap not (id-read lives)) ∙ and-right (eqb (d .differ2 .result) 0 && kinds .same2 .result) _ others in
-    let first = and-left (eqb (d .differ2 .result) 0 && kinds .same2 .result) _ others in
-    let k1 = sym (kind-read-1 kinds) ∙ and-right (eqb (d .differ2 .result) 0) _ first in
-    let zero = eqb→eq (d .differ2 .result) 0 (holds _ (and-left (eqb (d .differ2 .result) 0) _ first)) in
+    let zero = eqb→eq (d .differ .result) 0 (holds _ (and-left (eqb (d .differ .result) 0) _ (c .if2 .taken))) in
+    let pressed = and-right (eqb (d .differ .result) 0) _ (c .if2 .taken) in
     let fits = subst Of32 (lent b .row-at .ensures) (fitting (lent b)) in
-    let rests = resting (u b) (was b) (was-good b) (good-setup b) (fr b) (perSlot * s b) fits k1 alive pressed (same-by (was b) (row b) (as-was d zero)) in
+    let rests = resting (u b) (was b) (was-good b) (good-setup b) (fr b) (perSlot * s b) fits (kind-1 d) (lives d) pressed (same-by (was b) (row b) (as-was d zero)) in
     let told = told-on (old b) (t b) (s b) (in-old b) (inside b) (changed b) (known b .tells) in
     turned b (was b) (rests .slot (given b)) (rests .goes) (rests .good) (t b) (sym (set-getD (t b) (s b) blank)) (changed b) told
 
-begins-requires : tie.Need-begins-requires Inv-loop μ-loop
-begins-requires c κs = search needs
-
-give-ids-requires : tie.Need-give-ids-requires Inv-loop μ-loop
-give-ids-requires c κs =
-    let b = here (loud (unrest (c .before))) in
-    record { given = start b .pre .given; inside = known b .inside; tells = known b .tells }
-
-returns : tie.Need-returns Inv-loop μ-loop
-returns c =
-    let b = here (loud (unrest (c .before .before))) in
-    let k = start b .args .counter in
-    subst (λ v. PlansBy v (n b) (old b) k (plan b) (c .give-ids .result)) (sym (known b .good))
-    (subst (λ p. PlansBy (rowsGood (u b) (fr b) (s b)) (n b) (old b) k p (c .give-ids .result)) (sym (known b .whole)) (c .give-ids .ensures))
-
 row-ok-requires : tie.Need-row-ok-requires Inv-loop μ-loop
 row-ok-requires c κs =
-    let b = here (loud (unrest (c .before))) in
+    let b = here (loud c) in
     let m = small (u b) (good-setup b) in
     record { x = omega (arith, m .x); y = omega (arith, m .y); pressure = omega (arith, m .pressure); major = omega (arith, m .major); minor = omega (arith, m .minor) }
 
 refused-requires : tie.Need-refused-requires Inv-loop μ-loop
 refused-requires c κs = search needs
 
-returns-2 : tie.Need-returns-2 Inv-loop μ-loop
-returns-2 c =
+returns : tie.Need-returns Inv-loop μ-loop
+returns c =
     let j = c .before .before in
     let b = here (moved j) in
-    let bad = known b .good ∙ Turn.good-turn (fr b) (s b) (n b) (below b) (u b) ∙ first-false _ _ (sym (row-judged j) ∙ not-true (j .row-ok .result) (c .before .if4 .taken)) in
+    let bad = known b .good ∙ Turn.good-turn (fr b) (s b) (n b) (below b) (u b) ∙ first-false _ _ (sym (row-judged j) ∙ not-true (j .row-ok .result) (c .before .if3 .taken)) in
     subst (λ v. PlansBy v (n b) (old b) (start b .args .counter) (plan b) (c .refused .result)) (sym bad) (c .refused .ensures)
 
-mul-t-2 : tie.Need-mul-t-2 Inv-loop μ-loop
-mul-t-2 c =
+mul-t : tie.Need-mul-t Inv-loop μ-loop
+mul-t c =
     let b = here (moved (c .before)) in
     omega (arith, below b, few b)
 
-array-set-from-t-2 : tie.Need-array-set-from-t-2 Inv-loop μ-loop
-array-set-from-t-2 c =
+array-set-from-t : tie.Need-array-set-from-t Inv-loop μ-loop
+array-set-from-t c =
     let b = here (moved (c .before)) in
     omega (arith, below b, few b)
 
@@ -442,21 +382,76 @@ with-changed-requires : tie.Need-with-changed-requires Inv-loop μ-loop
 with-changed-requires c κs =
     let d = moved (c .before) in
     let b = here d in
-    (omega (arith, below b, few b), d .differ2 .ensures .0, omega (arith, some c), known b .tells .before)
+    (omega (arith, below b, few b), d .differ .ensures .0, omega (arith, some c), known b .tells .before)
 
-add-s-3 : tie.Need-add-s-3 Inv-loop μ-loop
-add-s-3 c =
+add-s-2 : tie.Need-add-s-2 Inv-loop μ-loop
+add-s-2 c =
     let b = here (moved (c .before .before)) in
     omega (arith, below b, few b)
 
+loop-less-2 : tie.Need-loop-less-2 Inv-loop μ-loop
+loop-less-2 c = omega (arith, below (here (moved (c .before .before))))
+
+loop-again-2 : tie.Need-loop-again-2 Inv-loop μ-loop
+loop-again-2 c =
+    let e = c .before in
+    let d = moved (e .before) in
+    counted (here d) (d .before .contact .result) (on-slot e) (not-begun d) (good-row e) (d .differ .result) (d .differ .ensures) (c .with-changed .result) (c .with-changed .ensures)
+
+same-requires-3 : tie.Need-same-requires-3 Inv-loop μ-loop
+same-requires-3 c κs = search needs
+
+give-ids-requires : tie.Need-give-ids-requires Inv-loop μ-loop
+give-ids-requires c κs =
+    let b = there (c .before) in
+    record { given = start b .pre .given; inside = known b .inside; tells = known b .tells }
+
+returns-2 : tie.Need-returns-2 Inv-loop μ-loop
+returns-2 c =
+    let b = there (c .before .before) in
+    let k = start b .args .counter in
+    subst (λ v. PlansBy v (n b) (old b) k (plan b) (c .give-ids .result)) (sym (known b .good))
+    (subst (λ p. PlansBy (rowsGood (u b) (fr b) (s b)) (n b) (old b) k p (c .give-ids .result)) (sym (known b .whole)) (c .give-ids .ensures))
+
+lift-requires : tie.Need-lift-requires Inv-loop μ-loop
+lift-requires c κs = search needs
+
+mul-t-2 : tie.Need-mul-t-2 Inv-loop μ-loop
+mul-t-2 c =
+    let b = there (c .before .before) in
+    omega (arith, below b, few b)
+
+array-set-from-t-2 : tie.Need-array-set-from-t-2 Inv-loop μ-loop
+array-set-from-t-2 c =
+    let b = there (c .before .before) in
+    omega (arith, below b, few b)
+
+differ-requires-2 : tie.Need-differ-requires-2 Inv-loop μ-loop
+differ-requires-2 c κs = search needs
+
+with-slot-requires : tie.Need-with-slot-requires Inv-loop μ-loop
+with-slot-requires c κs =
+    let b = there (c .before .before .before) in
+    (omega (arith, below b, few b), c .differ2 .ensures .0, known b .tells .before)
+
+add-s-3 : tie.Need-add-s-3 Inv-loop μ-loop
+add-s-3 c =
+    let b = there (c .before .before .before .before) in
+    omega (arith, below b, few b)
+
 loop-less-3 : tie.Need-loop-less-3 Inv-loop μ-loop
-loop-less-3 c = omega (arith, below (here (moved (c .before .before))))
+loop-less-3 c = omega (arith, below (there (c .before .before .before .before)))
 
 loop-again-3 : tie.Need-loop-again-3 Inv-loop μ-loop
 loop-again-3 c =
-    let e = c .before in
-    let d = moved (e .before) in
-    counted (here d) (d .before .contact .result) (on-slot e) (not-begun (e .before)) (good-row e) (d .differ2 .result) (d .differ2 .ensures) (c .with-changed .result) (c .with-changed .ensures)
+    let m = c .before .before in
+    let o = m .before .before in
+    let b = there o in
+    let is-0 : eqZ (kind b) (pos 0) ≡ true = sym (kind-read-0 o) ∙ not-false (o .same3 .result) (m .before .if4 .left) in
+    let alive = live (was b .id .0) in
+    let no-contact = ap (λ z. begun (cond z none (cond (eqZ (kind b) (pos 2)) begins (cond alive goesOn begins)))) is-0 in
+    let slot = ap slotOf (m .lift .ensures) ∙ sym (ap (λ z. slotAfter (cond z none (cond (eqZ (kind b) (pos 2)) begins (cond alive goesOn begins))) (given b) (slotOf (was b)) (numbersOf (row b))) is-0) in
+    counted b (m .lift .result) slot no-contact (or-true _ _ is-0) (c .before .differ2 .result) (c .before .differ2 .ensures) (c .with-slot .result) (c .with-slot .ensures)
 
 returns-3 : tie.Need-returns-3 Inv-loop μ-loop
 returns-3 c =
@@ -483,30 +478,29 @@ plan-frame-spec =
     mul-was
     array-copy-out-was
     same-requires
-    lift-requires
-    mul-t
-    array-set-from-t
+    same-requires-2
+    contact-requires
     differ-requires
-    with-slot-requires
     add-s
     loop-less
     loop-again
-    contact-requires
-    differ-requires-2
-    same-requires-2
-    same-requires-3
+    row-ok-requires
+    refused-requires
+    returns
+    mul-t
+    array-set-from-t
+    with-changed-requires
     add-s-2
     loop-less-2
     loop-again-2
-    begins-requires
+    same-requires-3
     give-ids-requires
-    returns
-    row-ok-requires
-    refused-requires
     returns-2
+    lift-requires
     mul-t-2
     array-set-from-t-2
-    with-changed-requires
+    differ-requires-2
+    with-slot-requires
     add-s-3
     loop-less-3
     loop-again-3
