@@ -1,4 +1,5 @@
 // What a record asks of a reader, by its type and code: the one place where the code tells them apart. The reader's loop stands on it.
+#![tactic(auto)]
 ghost use Rattle.std.specs.Prelude.{◌≡◌, ℤ};
 ghost use Rattle.model.specs.Events.{classify};
 ghost use Rattle.panel.specs.Seen.{panel_seen};
@@ -7,7 +8,7 @@ ghost use Rattle.records.specs.Seen.{headed};
 ghost use Rattle.acts.specs.Seen.{act_of, unlisted_act};
 
 // What a record asks, and no number: an act with a number in it is made as a value first and then looked at again. The loop judges a value in the act's arm.
-#[derive(Drop)]
+#[derive(Clone, Copy)]
 pub enum Act {
     UnknownType,
     UnknownCode,

@@ -1,4 +1,5 @@
 // Writes the type A frame of an anonymous panel as type B events (document 02's K12): reads its contacts, pairs them with those of the writer's table, and hands the frame that this makes to the writer.
+#![tactic(auto)]
 ghost use Rattle.std.specs.Prelude.{◌≡◌, ◌++◌, map, ◌≤◌, ◌-◌, ◌*◌, pos, length, take, replicate};
 ghost use Rattle.model.specs.Panel.{base, per_slot, records};
 ghost use Rattle.model.specs.Shift.{flat};
@@ -19,7 +20,7 @@ use writer::{WriterState, Written};
 const NUMBERS: usize = PER_SLOT * RECORDS;
 
 // The contacts of a table, by rising slot: where they are, how many, and which records are live.
-#[derive(Drop)]
+#[derive(Clone, Copy)]
 struct Olds {
     x: [u32; RECORDS],
     y: [u32; RECORDS],
@@ -106,7 +107,7 @@ fn frame_of(n: usize, numbers: [u8; RECORDS], p: Packets) -> [i32; NUMBERS]
 }
 
 // A frame with zeros behind it, how many numbers it has, and the verdict on its records.
-#[derive(Drop)]
+#[derive(Clone, Copy)]
 pub struct Framed {
     pub frame: [i32; NUMBERS],
     pub size: usize,

@@ -1,5 +1,6 @@
 // Runs the bench sheet of document 01: a line for each of its Run cases, but the small program's, with every number of the answer, and the cases of 02's requests.
 // Reads no input.
+#![tactic(auto)]
 use common::{Mode, TrackingId};
 use panel::{RECORDS, Setup, Slot};
 use pod::PodState;
@@ -210,7 +211,7 @@ fn glove_cases(page: &mut [u8], out: Out) -> Out {
 }
 
 // K6: a writer of two slots with pointer emulation, and the output so far.
-#[derive(Drop)]
+#[derive(Clone, Copy)]
 struct Pointing {
     state: WriterState,
     out: Out,

@@ -1,4 +1,5 @@
 // The pod's commands in words, 02's K13: a line for each, as show_commands prints it and write_commands takes it. It promises nothing but that it is safe and ends.
+#![tactic(auto)]
 use commands::{
     AbsoluteMode, Answer, AskClock, ButtonAction, Command, Interrogate, LoadPosition, RelativeMode,
     Reset, Scale, SetClock, Threshold,
@@ -65,7 +66,7 @@ const CLOCK: usize = 6;
 const DIGITS: usize = 2;
 
 // What a line says: a command; one with a number out of its range, which no command can hold; or none.
-#[derive(Drop)]
+#[derive(Clone, Copy)]
 pub enum Line {
     Command(Command),
     OutOfRange,
@@ -73,7 +74,7 @@ pub enum Line {
 }
 
 // A number, how many digits it has, and the place behind it. No digits, no number.
-#[derive(Drop)]
+#[derive(Clone, Copy)]
 struct Number {
     value: u32,
     digits: usize,
@@ -142,7 +143,7 @@ fn number_at(line: &[u8], at: usize) -> Number {
 }
 
 // Two numbers up to the line's end.
-#[derive(Drop)]
+#[derive(Clone, Copy)]
 struct Pair {
     good: bool,
     x: u32,
@@ -172,7 +173,7 @@ fn packed(v: u32) -> u8 {
 }
 
 // Whether a line's six numbers go to its end, whether each has two digits, and their clock bytes.
-#[derive(Drop)]
+#[derive(Clone, Copy)]
 struct Digits {
     good: bool,
     two: bool,

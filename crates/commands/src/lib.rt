@@ -1,6 +1,7 @@
 // Talking to the pod, 02's K13: the ten ikbd commands that the bench uses, written into a lent buffer with the pod's state in hand and read from a
 // lent slice. Called by programs and by a host; `write`, `read` and `size_of` are the public functions, none requires anything, and what they
 // answer is the model's.
+#![tactic(auto)]
 ghost use Rattle.std.specs.Prelude.{◌≡◌, ◌∷◌, [], ◌≤◌, length};
 ghost use Rattle.model.specs.Calls.{room_for};
 ghost use Rattle.model.specs.Pod.{word, clock_in};
@@ -14,7 +15,7 @@ use common::Verdict;
 use pod::{Clock, PodState};
 
 // Each command carries its own length, its first byte included.
-#[derive(Drop)]
+#[derive(Clone, Copy)]
 pub struct Reset {}
 
 impl Reset {
@@ -22,7 +23,7 @@ impl Reset {
 }
 
 // What the mouse's buttons do, 0 to 4.
-#[derive(Drop)]
+#[derive(Clone, Copy)]
 pub struct ButtonAction {
     pub action: u8,
 }
@@ -31,7 +32,7 @@ impl ButtonAction {
     pub const LENGTH: usize = 2;
 }
 
-#[derive(Drop)]
+#[derive(Clone, Copy)]
 pub struct RelativeMode {}
 
 impl RelativeMode {
@@ -39,7 +40,7 @@ impl RelativeMode {
 }
 
 // The largest x and y.
-#[derive(Drop)]
+#[derive(Clone, Copy)]
 pub struct AbsoluteMode {
     pub x: u16,
     pub y: u16,
@@ -49,7 +50,7 @@ impl AbsoluteMode {
     pub const LENGTH: usize = 5;
 }
 
-#[derive(Drop)]
+#[derive(Clone, Copy)]
 pub struct Threshold {
     pub x: u8,
     pub y: u8,
@@ -59,7 +60,7 @@ impl Threshold {
     pub const LENGTH: usize = 3;
 }
 
-#[derive(Drop)]
+#[derive(Clone, Copy)]
 pub struct Scale {
     pub x: u8,
     pub y: u8,
@@ -69,7 +70,7 @@ impl Scale {
     pub const LENGTH: usize = 3;
 }
 
-#[derive(Drop)]
+#[derive(Clone, Copy)]
 pub struct Interrogate {}
 
 impl Interrogate {
@@ -77,7 +78,7 @@ impl Interrogate {
 }
 
 // The filler before x and y is no number of it.
-#[derive(Drop)]
+#[derive(Clone, Copy)]
 pub struct LoadPosition {
     pub x: u16,
     pub y: u16,
@@ -87,7 +88,7 @@ impl LoadPosition {
     pub const LENGTH: usize = 6;
 }
 
-#[derive(Drop)]
+#[derive(Clone, Copy)]
 pub struct SetClock {
     pub clock: Clock,
 }
@@ -96,7 +97,7 @@ impl SetClock {
     pub const LENGTH: usize = 7;
 }
 
-#[derive(Drop)]
+#[derive(Clone, Copy)]
 pub struct AskClock {}
 
 impl AskClock {
@@ -104,14 +105,14 @@ impl AskClock {
 }
 
 // A first byte that begins none of them; it is here for its length.
-#[derive(Drop)]
+#[derive(Clone, Copy)]
 struct NoCommand {}
 
 impl NoCommand {
     const LENGTH: usize = 1;
 }
 
-#[derive(Drop)]
+#[derive(Clone, Copy)]
 pub enum Command {
     Reset(Reset),
     ButtonAction(ButtonAction),
@@ -125,7 +126,7 @@ pub enum Command {
     AskClock(AskClock),
 }
 
-#[derive(Drop)]
+#[derive(Clone, Copy)]
 pub enum Answer {
     Command(Command),
     // 0x80 and another byte
@@ -137,20 +138,20 @@ pub enum Answer {
     Nothing,
 }
 
-#[derive(Drop)]
+#[derive(Clone, Copy)]
 pub struct ReadAnswer {
     pub answer: Answer,
     pub next: usize,
 }
 
-#[derive(Drop)]
+#[derive(Clone, Copy)]
 pub struct Written {
     pub verdict: Verdict,
     pub state: PodState,
     pub need: usize,
 }
 
-#[derive(Drop)]
+#[derive(Clone, Copy)]
 enum Kind {
     Reset,
     ButtonAction,

@@ -1,4 +1,5 @@
 // What has no shape, whatever a slot holds and a table counts: the kinds of number, a refusal's name, a reader's mode and how it goes on once track is lost. All other crates stand on it.
+#![tactic(auto)]
 ghost use Rattle.std.specs.Prelude.{◌≡◌, ◌≤◌, ◌-◌, ◌*◌, ◌/◌, pos, length};
 ghost use Rattle.model.specs.Numbers.{eq_z, between as between_n, between_z};
 ghost use Rattle.model.specs.Panel.{id_field};
@@ -9,10 +10,10 @@ ghost use Rattle.common.specs.Seen.{natural, verdict_number, mode_of};
 ghost use Rattle.common.specs.Lost.{heard, on_lost, last_mode as mode_after};
 
 // A slot number and a tracking id are kinds of number that must not be mixable: a lifted id taken for a slot would move another finger.
-#[derive(Drop)]
+#[derive(Clone, Copy)]
 pub struct SlotNumber(pub usize);
 
-#[derive(Drop)]
+#[derive(Clone, Copy)]
 pub struct TrackingId(pub i32);
 
 impl TrackingId {
@@ -67,7 +68,7 @@ pub fn id_ok(v: i32) -> bool
 }
 
 // A call is accepted, or refused by document 01's name.
-#[derive(Drop)]
+#[derive(Clone, Copy)]
 pub enum Verdict {
     Accepted,
     Setup,
@@ -107,7 +108,7 @@ impl Verdict {
     }
 }
 
-#[derive(Drop)]
+#[derive(Clone, Copy)]
 pub enum Mode {
     Following,
     Dropped,
@@ -115,14 +116,14 @@ pub enum Mode {
 }
 
 // The first event that a run skipped, by its type and code.
-#[derive(Drop)]
+#[derive(Clone, Copy)]
 pub enum FirstSkipped {
     None,
     Event(u16, u16),
 }
 
 // A count is as wide as a slice's length, so it fits whatever comes. Skipped events are counted by what is unknown of them.
-#[derive(Drop)]
+#[derive(Clone, Copy)]
 pub struct Counts {
     pub shown: usize,
     pub types: usize,

@@ -1,4 +1,5 @@
 // What a record asks of a crane's reader: the one place where its code knows event codes and ranges. A size's code, 0x30 or 0x31, is unknown here. The cranes' loop stands on it.
+#![tactic(auto)]
 ghost use Rattle.std.specs.Prelude.{◌≡◌, true, cond, ◌≤◌};
 ghost use Rattle.model.specs.Panel.{crane, setup_good, id_field, crane_records, slot_code};
 ghost use Rattle.model.specs.Table.{fits};
@@ -9,7 +10,7 @@ ghost use Rattle.records.specs.Seen.{event_of};
 ghost use Rattle.crane_acts.specs.Seen.{act_of};
 
 // A record that is unknown says only why: its type and code are at hand, and numbers beside those of the other acts cost the reader's loop dear. A good number comes as what is stored: a slot number, an id, or an unsigned number.
-#[derive(Drop)]
+#[derive(Clone, Copy)]
 pub enum Act {
     UnknownType,
     UnknownCode,

@@ -1,4 +1,5 @@
 // A crane's run over records: the loop of a reader that follows, which changes its tables in place, and how a run ends once track is lost. The calls of the cranes' reader stand on it.
+#![tactic(auto)]
 ghost use Rattle.std.specs.Prelude.{◌≡◌, true, ◌<◌, ◌≤◌, ◌+◌, ◌-◌, ◌*◌, ◌/◌, ◌^◌, length};
 ghost use Rattle.model.specs.Panel.{crane, setup_good};
 ghost use Rattle.model.specs.Records.{events_from, events_of};
@@ -13,7 +14,7 @@ use common::{Counts, FirstSkipped, Mode, SlotNumber};
 use crane_acts::Act;
 use crane_panel::{RECORDS, Setup, Slot};
 
-#[derive(Drop)]
+#[derive(Clone, Copy)]
 pub struct Ended {
     pub shown: [Slot; RECORDS],
     pub pending: [Slot; RECORDS],

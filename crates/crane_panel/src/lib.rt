@@ -1,4 +1,5 @@
 // The cranes' panel: sixteen slots of four numbers, for good, and the tests of a setup, a slot and a table. The cranes' reader stands on it.
+#![tactic(auto)]
 ghost use Rattle.std.specs.Prelude.{◌≡◌, ◌∷◌, [], ◌≤◌, take, drop};
 ghost use Rattle.model.specs.Panel.{crane, setup_good, crane_records};
 ghost use Rattle.model.specs.Table.{ids, unheld, good_slot, eq_slot, eq_table, ids_differ as ids_apart, good_records};
@@ -18,7 +19,7 @@ pub const MOST_POSITION: usize = 32767;
 pub const MOST_PRESSURE: usize = 255;
 
 // The numbers of a slot are unsigned but for the id: only good numbers are ever held, and a test against a largest value is one comparison.
-#[derive(Drop)]
+#[derive(Clone, Copy)]
 pub struct Slot {
     pub id: TrackingId,
     pub x: u32,
@@ -26,7 +27,7 @@ pub struct Slot {
     pub pressure: u32,
 }
 
-#[derive(Drop)]
+#[derive(Clone, Copy)]
 pub struct Setup {
     pub n: usize,
     pub x: u32,

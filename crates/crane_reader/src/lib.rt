@@ -1,4 +1,5 @@
 // The cranes' type B reader: from event records to a contact table of four numbers a slot and sixteen slots, for good. A crane calls ReaderState::fresh, run, read_one, load and ask.
+#![tactic(auto)]
 ghost use Rattle.std.specs.Prelude.{◌≡◌, true, [], ◌<◌, ◌≤◌, ◌*◌, length, get_or};
 ghost use Rattle.model.specs.Panel.{crane, crane_per_slot, crane_records};
 ghost use Rattle.model.specs.Records.{events_of};
@@ -15,7 +16,7 @@ use common::{Counts, FirstSkipped, Mode, SlotNumber, TrackingId, Verdict};
 use crane_follow::Ended;
 use crane_panel::{RECORDS, Setup, Slot};
 
-#[derive(Drop)]
+#[derive(Clone, Copy)]
 pub struct ReaderState {
     pub setup: Setup,
     pub shown: [Slot; RECORDS],
@@ -24,26 +25,26 @@ pub struct ReaderState {
     pub mode: Mode,
 }
 
-#[derive(Drop)]
+#[derive(Clone, Copy)]
 pub struct FreshAnswer {
     pub verdict: Verdict,
     pub state: ReaderState,
 }
 
-#[derive(Drop)]
+#[derive(Clone, Copy)]
 pub struct RunAnswer {
     pub verdict: Verdict,
     pub state: ReaderState,
     pub counts: Counts,
 }
 
-#[derive(Drop)]
+#[derive(Clone, Copy)]
 pub struct LoadAnswer {
     pub verdict: Verdict,
     pub state: ReaderState,
 }
 
-#[derive(Drop)]
+#[derive(Clone, Copy)]
 pub enum SlotAnswer {
     Contact(Slot),
     Empty,

@@ -1,4 +1,5 @@
 // What a crane's display shows: reads what the product's writer writes, the setup of six numbers and event records, from standard input, and shows what a fresh cranes' reader makes of them.
+#![tactic(auto)]
 mod lines;
 mod setup;
 
@@ -10,7 +11,7 @@ use setup::Header;
 use stream::Out;
 
 // How the reading stands: the reader; how many records it read while following, and how many of them have an unknown type; the bytes of a record that is cut; whether there is more, or a read failed.
-#[derive(Drop)]
+#[derive(Clone, Copy)]
 struct Reading {
     state: ReaderState,
     followed: u64,

@@ -5,7 +5,7 @@ use stream::Out;
 pub const BYTES: usize = 24;
 
 // The four numbers, how many of the bytes there were, and whether a read failed before there were all.
-#[derive(Drop)]
+#[derive(Clone, Copy)]
 pub struct Header {
     pub n: u32,
     pub x: u32,

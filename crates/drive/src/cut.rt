@@ -94,7 +94,7 @@ pub fn fresh(page: &mut [u8], out: Out, ns: &[u64]) -> Out {
 }
 
 // The reader and the output after a piece, and where the next one begins.
-#[derive(Drop)]
+#[derive(Clone, Copy)]
 struct Taken {
     state: LineState,
     out: Out,

@@ -1,4 +1,5 @@
 // Makes each call of a script on the proved library and prints every part of its answer: docs/DRIVE.md. What an independent program is compared through.
+#![tactic(auto)]
 mod answers;
 mod crane;
 mod cut;
@@ -13,7 +14,7 @@ const NEWLINE: u8 = 10;
 const BLANK: u8 = 32;
 
 // The output, how much of a line is held, and whether it was too long to be.
-#[derive(Drop)]
+#[derive(Clone, Copy)]
 struct Script {
     out: Out,
     count: usize,

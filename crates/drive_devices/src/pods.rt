@@ -36,7 +36,7 @@ pub fn say_state(page: &mut [u8], out: Out, s: PodState) -> Out {
 }
 
 // The pod and the output after a byte.
-#[derive(Drop)]
+#[derive(Clone, Copy)]
 struct Stepped {
     state: PodState,
     out: Out,

@@ -1,7 +1,7 @@
 // The calls of a script and the kind of each of their numbers: docs/DRIVE.md as tables.
 use panel::{PER_SLOT, RECORDS};
 
-#[derive(Drop)]
+#[derive(Clone, Copy)]
 pub enum Call {
     Fresh,
     New,
@@ -35,7 +35,7 @@ pub enum Call {
 }
 
 // What a number may be: 0 or 1, 8, 16, 32 or 64 bits, 8, 16 or 32 bits with a sign, a mode, a buffer's size; or none, where the call takes no more.
-#[derive(Drop)]
+#[derive(Clone, Copy)]
 pub enum Kind {
     Bit,
     Bits8,

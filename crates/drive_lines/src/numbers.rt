@@ -7,7 +7,7 @@ use crate::calls::{BUFFER, Call, Kind};
 const BLANK: u8 = 32;
 
 // A number that is being read.
-#[derive(Drop)]
+#[derive(Clone, Copy)]
 struct Token {
     begun: bool,
     negative: bool,
@@ -148,7 +148,7 @@ pub fn find(line: &[u8], from: usize, blank: bool) -> usize {
 }
 
 // How many numbers a line has, and whether they are the call's.
-#[derive(Drop)]
+#[derive(Clone, Copy)]
 pub struct Found {
     pub count: usize,
     pub good: bool,

@@ -1,4 +1,5 @@
 // How a reading ended, in words: what show_table and replay say of a reader, of a lost input and of records that were skipped. It promises nothing about a stream but that saying ends.
+#![tactic(auto)]
 ghost use Rattle.std.specs.Prelude.{◌≡◌};
 ghost use Rattle.model.specs.Panel.{base};
 ghost use Rattle.model.specs.Calls.{run_call};
@@ -40,7 +41,7 @@ fn say_state(page: &mut [u8], out: Out, s: ReaderState) -> Out {
 }
 
 // How many records were read while following, and how many of them were skipped. They are for a hint alone, so they may wrap.
-#[derive(Drop)]
+#[derive(Clone, Copy)]
 pub struct Tally {
     pub followed: u64,
     pub skipped: u64,

@@ -3,7 +3,7 @@ use common::{Counts, Mode};
 use reader::ReaderState;
 use records::Event;
 
-#[derive(Drop)]
+#[derive(Clone, Copy)]
 pub enum Deed {
     Ignored,
     Bad,
@@ -15,7 +15,7 @@ pub enum Deed {
 }
 
 // A record that was read, with the reader before and after it.
-#[derive(Drop)]
+#[derive(Clone, Copy)]
 pub struct Read {
     pub event: Event,
     pub before: ReaderState,

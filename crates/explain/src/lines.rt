@@ -55,7 +55,7 @@ fn say_set(page: &mut [u8], out: Out, s: ReaderState, code: u16) -> Out {
 }
 
 // The output, and whether it has a live slot.
-#[derive(Drop)]
+#[derive(Clone, Copy)]
 struct Said {
     out: Out,
     live: bool,

@@ -1,4 +1,5 @@
 // Explains event records one by one, for a class and a service desk. Standard input is what show_table reads; standard output has a line for each record, with what the reader did with it and why, and at the end the mode and the counts.
+#![tactic(auto)]
 mod deeds;
 mod lines;
 mod names;
@@ -15,7 +16,7 @@ use stream::Out;
 use sums::Sums;
 
 // How the reading stands: the reader, what was counted so far, the output.
-#[derive(Drop)]
+#[derive(Clone, Copy)]
 struct Standing {
     state: LineState,
     sums: Sums,
@@ -173,7 +174,7 @@ fn end(page: &mut [u8], s: Standing, failed: bool) -> Out {
 }
 
 // How the reading stands after a read, and whether to read on.
-#[derive(Drop)]
+#[derive(Clone, Copy)]
 struct Turn {
     standing: Standing,
     again: bool,

@@ -5,7 +5,7 @@ use reader::ReaderState;
 use stream::Out;
 
 // How many records came; the five counts; the type and code of the first that was skipped, if one was; whether something was set since the last report.
-#[derive(Drop)]
+#[derive(Clone, Copy)]
 pub struct Sums {
     pub records: u64,
     shown: u64,

@@ -15,7 +15,7 @@ fn say_range(page: &mut [u8], out: Out, name: &[u8], value: u32, lowest: &[u8], 
 }
 
 // A live id that stands in two slots.
-#[derive(Drop)]
+#[derive(Clone, Copy)]
 struct Twice {
     id: i32,
     first: usize,

@@ -1,4 +1,5 @@
 // A first program over the library: a hold-to-lift key that reads one finger's events. README.md shows the whole of it.
+#![tactic(auto)]
 use common::SlotNumber;
 use reader::{ReaderState, SlotAnswer};
 use stream::Out;

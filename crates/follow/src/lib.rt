@@ -1,4 +1,5 @@
 // A run over records: the loop of a reader that follows, which changes its tables in place, and the end once track is lost. The reader's calls stand on it.
+#![tactic(auto)]
 ghost use Rattle.std.specs.Prelude.{◌≡◌, true, ◌<◌, ◌≤◌, ◌+◌, ◌/◌, length};
 ghost use Rattle.model.specs.Panel.{base, setup_good};
 ghost use Rattle.model.specs.Records.{events_of};
@@ -13,7 +14,7 @@ use acts::Act;
 use common::{Counts, FirstSkipped, Mode, SlotNumber, TrackingId};
 use panel::{RECORDS, Setup, Slot};
 
-#[derive(Drop)]
+#[derive(Clone, Copy)]
 pub struct Ended {
     pub shown: [Slot; RECORDS],
     pub pending: [Slot; RECORDS],
@@ -77,7 +78,7 @@ pub fn earliest(skipped: usize, first: usize, k: usize) -> usize
 }
 
 // What a run that follows has counted, here or in lent bytes; `first` is the number of the first record skipped.
-#[derive(Drop)]
+#[derive(Clone, Copy)]
 pub struct SoFar {
     pub frames: usize,
     pub types: usize,

@@ -1,6 +1,7 @@
 // The force stick on the serial port, 02's K10: I-Force packets read from a lent slice, and a stick's report written into a lent buffer. Called
 // by programs and by a host; `read` and `write` are the calls, neither requires anything, and what they answer is the model's. `join`, `word_of`
 // and `signed_byte` are for a program that has a report's bytes in another order.
+#![tactic(auto)]
 ghost use Rattle.std.specs.Prelude.{◌≡◌, true, ◌&&◌, ◌≤◌, eqb, length};
 ghost use Rattle.model.specs.Records.{join16};
 ghost use Rattle.model.specs.Calls.{room_for};
@@ -32,7 +33,7 @@ pub const MOST_BUTTONS: u16 = 4095;
 
 pub const MOST_HAT: u8 = 15;
 
-#[derive(Drop)]
+#[derive(Clone, Copy)]
 pub struct Report {
     pub x: i16,
     pub y: i16,
@@ -42,7 +43,7 @@ pub struct Report {
     pub rudder: i8,
 }
 
-#[derive(Drop)]
+#[derive(Clone, Copy)]
 pub enum Answer {
     Report(Report),
     // OP and LEN
@@ -53,13 +54,13 @@ pub enum Answer {
     Nothing,
 }
 
-#[derive(Drop)]
+#[derive(Clone, Copy)]
 pub struct ReadAnswer {
     pub answer: Answer,
     pub next: usize,
 }
 
-#[derive(Drop)]
+#[derive(Clone, Copy)]
 pub struct Written {
     pub verdict: Verdict,
     pub need: usize,

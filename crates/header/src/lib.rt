@@ -1,4 +1,5 @@
 // The setup in front of a program's input: n, largest x, y, pressure, major and minor, each 32 bits and little-endian; and what was wrong with them, in words.
+#![tactic(auto)]
 use common::Verdict;
 use panel::{MOST_POSITION, MOST_PRESSURE, MOST_SIZE, RECORDS};
 use stream::{Out, warn_part, warn_range};
@@ -6,7 +7,7 @@ use stream::{Out, warn_part, warn_range};
 pub const BYTES: usize = 24;
 
 // The six numbers, the bytes that they came in and how many there were, and whether a read failed before there were all.
-#[derive(Drop)]
+#[derive(Clone, Copy)]
 pub struct Header {
     pub n: u32,
     pub x: u32,

@@ -1,4 +1,5 @@
 // An example of calling the library from another crate: a hold-to-lift key, and when it may lift. README.md shows it. Reads no input.
+#![tactic(auto)]
 ghost use Rattle.std.specs.Prelude.{◌≡◌};
 ghost use Rattle.model.specs.Panel.{base};
 ghost use Rattle.model.specs.Calls.{ask_call};

@@ -1,4 +1,5 @@
 // A run over records on a reader's two tables where they lie in lent bytes, the shown one first and the pending one behind it: `follow` in place. The reader over lent states stands on it.
+#![tactic(auto)]
 ghost use Rattle.std.specs.Prelude.{◌≡◌, true, ◌<◌, ◌≤◌, ◌+◌, ◌/◌, length, get_or, set};
 ghost use Rattle.model.specs.Panel.{base, setup_good, records};
 ghost use Rattle.model.specs.Table.{ids_differ};
@@ -18,7 +19,7 @@ use lent::{SLOT, TABLE};
 use panel::Setup;
 
 // How a run ends, but for the tables, which are in the lent bytes.
-#[derive(Drop)]
+#[derive(Clone, Copy)]
 pub struct EndedIn {
     pub current: SlotNumber,
     pub mode: Mode,

@@ -1,4 +1,5 @@
 // The table and the counter that a frame makes, and what it changes, in bytes that hold a copy of the state's table: from one row that does not leave its slot as it is to the next, with each slot stored where it lies. The lent writer stands on it.
+#![tactic(auto)]
 ghost use Rattle.std.specs.Prelude.{◌≡◌, ◌*◌, ◌<◌, ◌≤◌, length, take, set};
 ghost use Rattle.model.specs.Panel.{per_slot, records};
 ghost use Rattle.model.specs.Table.{ids};
@@ -55,7 +56,7 @@ fn ids_of(n: usize, t: &[u8]) -> [i32; TAKEN]
 // ---- the walk
 
 // What a frame makes besides the table in place.
-#[derive(Drop)]
+#[derive(Clone, Copy)]
 pub struct Plan {
     pub counter: u32,
     pub changes: Changed,
@@ -74,7 +75,7 @@ fn refused(counter: u32) -> Plan
 }
 
 // How far a walk has come: the slot that is next, and what changed before it.
-#[derive(Drop)]
+#[derive(Clone, Copy)]
 struct Reached {
     slot: usize,
     changes: Changed,

@@ -1,4 +1,5 @@
 // A table that lies in lent bytes: whether it is as a state's should be, and which row of a frame is the next that does not leave its slot as it is. The table stays where it lies: a slot is read as it is looked at. The writer over lent bytes stands on it.
+#![tactic(auto)]
 ghost use Rattle.std.specs.Prelude.{◌≡◌, ◌&&◌, ◌*◌, ◌<◌, ◌≤◌, length, drop, get_or};
 ghost use Rattle.model.specs.Panel.{per_slot, records};
 ghost use Rattle.model.specs.Table.{eq_table, ids_differ as ids_apart, good_records};
@@ -22,7 +23,7 @@ pub fn slot_of(t: &[u8], s: usize) -> Slot
 }
 
 // What a walk over the panel's slots tells: whether they are good but for their ids, and whether no two live ids fall on one of 64 bits.
-#[derive(Drop)]
+#[derive(Clone, Copy)]
 struct Judged {
     good: bool,
     apart: bool,

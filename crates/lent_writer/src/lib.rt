@@ -1,4 +1,5 @@
 // The writer over state bytes that a host lends, changed in place: a fresh state, a frame, and a type A frame of an anonymous panel.
+#![tactic(auto)]
 ghost use Rattle.std.specs.Prelude.{◌≡◌, ◌&&◌, [], ◌∷◌, ◌+◌, ◌<◌, ◌≤◌, ◌^◌, length};
 ghost use Rattle.model.specs.Panel.{base, records};
 ghost use Rattle.model.specs.Records.{lay, join16};
@@ -337,7 +338,7 @@ fn moved_on(b: &[u8], new: &[u8], n: usize, slots: u32) -> Moved
 }
 
 // What a frame sends besides the numbers of its tables: ranks and display after it, what the display was told before it, the current slot, the slots that are opened, and how many events there are.
-#[derive(Drop)]
+#[derive(Clone, Copy)]
 struct Telling {
     moved: Moved,
     told: Pointer,

@@ -14,7 +14,7 @@ use Rattle.model.proofs.Ids.{fated, free_id-below, counter-below, ids-apart}
 use Rattle.model.specs.Numbers.{eq_z}
 use Rattle.model.specs.Panel.{Field, Panel, id_field, id_count, last_id}
 use Rattle.model.specs.Table.{Slot, Table, id_of, numbers_of, live, ids, ids_differ, fits, good_slot, good_records, good_table}
-use Rattle.model.specs.Frame.{kind_of, given, good_contact, good_row, good_rows, Fate, none, goes_on, begins, fate, free_id, planned, new_table, new_counter}
+use Rattle.model.specs.Frame.{taken_after, kind_of, given, good_contact, good_row, good_rows, Fate, none, goes_on, begins, fate, free_id, planned, new_table, new_counter}
 use Rattle.model.specs.Sending.{sending, current_after}
 use Rattle.model.specs.States.{Writer, good_writer}
 
@@ -109,7 +109,7 @@ rows_good axes (suc n) taken k (x ∷ fr) (s ∷ t) q l r g =
 pub length_rows : (taken : List ℤ) (k : ℕ) (fr : List (List ℤ)) (t : Table) → length (planned taken k fr t).table ≡ length t
 length_rows taken k [] t = refl
 length_rows taken k (x ∷ fr) [] = refl
-length_rows taken k (x ∷ fr) (s ∷ t) = ap suc (length_rows _ _ fr t)
+length_rows taken k (x ∷ fr) (s ∷ t) = ap suc (length_rows (taken_after (fate (kind_of x) (id_of s)) (free_id taken k) taken) _ fr t)
 
 -- The writer after a frame's rows.
 abbrev pub after_rows : List (List ℤ) → Writer → Writer

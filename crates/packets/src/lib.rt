@@ -1,4 +1,5 @@
 // What a type A frame of an anonymous panel tells (document 02's K12): its contacts, whether it is finished, and whether a panel can take their numbers.
+#![tactic(auto)]
 ghost use Rattle.std.specs.Prelude.{◌≡◌, not, ◌&&◌, [], ◌∷◌, ◌<◌, ◌≤◌, ℤ};
 ghost use Rattle.model.specs.Records.{signed_of, events_of};
 ghost use Rattle.model.specs.Packets.{said, close, is_blank, is_whole, packets_of, value_of, contact_good, contacts_good};
@@ -14,7 +15,7 @@ use panel::{Row, Setup};
 pub const MOST: usize = 5;
 
 // The first five contacts, by place, with zeros where there is none and for a number that a contact lacks; `count` goes on past five.
-#[derive(Drop)]
+#[derive(Clone, Copy)]
 pub struct Packets {
     pub count: usize,
     pub x: [i32; MOST],
@@ -24,7 +25,7 @@ pub struct Packets {
 }
 
 // What a record says, without the number in it, as `acts::Act`.
-#[derive(Drop)]
+#[derive(Clone, Copy)]
 enum Said {
     Skipped,
     X,
@@ -69,7 +70,7 @@ fn said_of(head: u32) -> Said
 }
 
 // A number of the open packet: its bits, and whether it was told.
-#[derive(Drop)]
+#[derive(Clone, Copy)]
 struct Number {
     bits: u32,
     told: bool,
@@ -77,7 +78,7 @@ struct Number {
 
 // What the walk over the records knows: the open packet, the contacts closed so far, whether nothing was wrong so far, and whether the SYN_REPORT came.
 // No array is in it, so a step of the walk is made in registers.
-#[derive(Drop)]
+#[derive(Clone, Copy)]
 struct Walk {
     x: Number,
     y: Number,

@@ -1,4 +1,5 @@
 // The panel's types, and the tests of a setup, a slot and a table. The reader and the writer stand on it.
+#![tactic(auto)]
 ghost use Rattle.std.specs.Prelude.{◌≡◌, ◌&&◌, ◌+◌, ◌<◌, ◌≤◌, length, take, drop};
 ghost use Rattle.model.specs.Panel.{base, setup_good, per_slot, records};
 ghost use Rattle.model.specs.Table.{numbers_of, ids, unheld, good_slot, eq_slot, eq_table, ids_differ as ids_apart, good_records};
@@ -32,7 +33,7 @@ pub const LEAST_PRESSURE: u32 = 1;
 pub const LEAST_SIZE: u32 = 0;
 
 // The numbers of a slot are unsigned but for the id: only good numbers are ever held, and a test against a largest value is one comparison.
-#[derive(Drop)]
+#[derive(Clone, Copy)]
 pub struct Slot {
     pub id: TrackingId,
     pub x: u32,
@@ -42,7 +43,7 @@ pub struct Slot {
     pub minor: u32,
 }
 
-#[derive(Drop)]
+#[derive(Clone, Copy)]
 pub struct Setup {
     pub n: usize,
     pub x: u32,
@@ -53,7 +54,7 @@ pub struct Setup {
 }
 
 // A slot's numbers as they lie in a frame or an image: the kind or the id first, and then the others, any signed number each.
-#[derive(Drop)]
+#[derive(Clone, Copy)]
 pub struct Row {
     pub first: i32,
     pub x: i32,
@@ -249,7 +250,7 @@ pub fn ids_differ(n: usize, t: [Slot; RECORDS]) -> bool
 }
 
 // What a walk over a table tells: whether it is good but for its ids, and whether no two live ids fall on one of 64 bits.
-#[derive(Drop)]
+#[derive(Clone, Copy)]
 struct Judged {
     good: bool,
     apart: bool,

@@ -1,5 +1,6 @@
 // Bytes as the line delivers them (K5): a reader that takes pieces of any size and carries the bytes of a record that is cut from one to the next.
 // Its calls stand on the reader's.
+#![tactic(auto)]
 ghost use Rattle.std.specs.Prelude.{◌≡◌, true, ◌++◌, ◌+◌, ◌-◌, ◌≤◌, ◌<◌, ◌^◌, length, take as first, drop};
 ghost use Rattle.std.proofs.Math.Seq.{paste};
 ghost use Rattle.model.specs.Panel.{base};
@@ -21,27 +22,27 @@ pub const PLACES: usize = records::LENGTH - 1;
 
 // The places from `count` on are unused, and 0 in a well-formed state.
 // The reader stands last: with the bytes behind it, its tables are copied twice more on their way into an answer.
-#[derive(Drop)]
+#[derive(Clone, Copy)]
 pub struct LineState {
     pub left: [u8; PLACES],
     pub count: usize,
     pub reader: ReaderState,
 }
 
-#[derive(Drop)]
+#[derive(Clone, Copy)]
 pub struct FreshAnswer {
     pub verdict: Verdict,
     pub state: LineState,
 }
 
-#[derive(Drop)]
+#[derive(Clone, Copy)]
 pub struct TakeAnswer {
     pub verdict: Verdict,
     pub state: LineState,
     pub counts: Counts,
 }
 
-#[derive(Drop)]
+#[derive(Clone, Copy)]
 pub struct LoadAnswer {
     pub verdict: Verdict,
     pub state: LineState,

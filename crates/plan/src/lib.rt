@@ -1,4 +1,5 @@
 // The table and the counter that a frame makes, and what it changes: one walk judges each row, plans its slot and compares. A row that leaves its slot as it is is passed over. The writer stands on it.
+#![tactic(auto)]
 ghost use Rattle.std.specs.Prelude.{◌≡◌, ◌*◌, ◌<◌, ◌≤◌, pos, length, take};
 ghost use Rattle.model.specs.Panel.{id_count, per_slot, records};
 ghost use Rattle.model.specs.Numbers.{eq_z};
@@ -212,7 +213,7 @@ pub fn first_loud(n: usize, t: [Slot; RECORDS], frame: &[i32]) -> usize
 
 // ---- the walk
 
-#[derive(Drop)]
+#[derive(Clone, Copy)]
 pub struct Planned {
     pub table: [Slot; RECORDS],
     pub counter: u32,
@@ -233,7 +234,7 @@ fn refused(old: [Slot; RECORDS], counter: u32) -> Planned
 }
 
 // How far a walk has come: the slot that is next, and what changed before it.
-#[derive(Drop)]
+#[derive(Clone, Copy)]
 struct Reached {
     slot: usize,
     changes: Changed,

@@ -1,6 +1,7 @@
 // The pod reader of document 01, "Pod reports", with 02's K3 and K13's report of the time of day: one byte at a time, the state holds the
 // unfinished report and knows whether it waits for "self-test passed". Called by show_pod and by a host; `PodState::fresh` and `step` are the
 // public functions, neither requires anything, and what they answer is the model's. `well_formed` and `clock_ok` are public for `commands`.
+#![tactic(auto)]
 ghost use Rattle.std.specs.Prelude.{◌≡◌, ◌∷◌, [], ◌++◌, ◌-◌, ◌≤◌, take, drop};
 ghost use Rattle.model.specs.Pod.{kind_of, amended, length_of, places, held_in, emptied, unfinished, zeros, well_formed, waits_after, relative, word, signed, good_digits, good_three, good_clock, good_stick, judged_absolute, judged_time, judged_both, judged_stick, judged, clock_in, first_of};
 ghost use Rattle.pod.specs.Seen.{kind_seen, seen, held, clock_seen, held_clock, held_stick, held_report, report_seen, fresh_state, AnswersAs};
@@ -12,14 +13,14 @@ pub const PLACES: usize = 6;
 const SELF_TEST: u8 = 0xf0;
 
 // The places from `count` on are unused, and 0 in a well-formed state.
-#[derive(Drop)]
+#[derive(Clone, Copy)]
 pub struct PodState {
     pub waits: bool,
     pub bytes: [u8; PLACES],
     pub count: usize,
 }
 
-#[derive(Drop)]
+#[derive(Clone, Copy)]
 pub struct KeyDown {
     pub key: u8,
 }
@@ -28,7 +29,7 @@ impl KeyDown {
     pub const LENGTH: usize = 1;
 }
 
-#[derive(Drop)]
+#[derive(Clone, Copy)]
 pub struct KeyUp {
     pub key: u8,
 }
@@ -37,7 +38,7 @@ impl KeyUp {
     pub const LENGTH: usize = 1;
 }
 
-#[derive(Drop)]
+#[derive(Clone, Copy)]
 pub struct Absolute {
     pub flags: u8,
     pub x: u16,
@@ -48,7 +49,7 @@ impl Absolute {
     pub const LENGTH: usize = 6;
 }
 
-#[derive(Drop)]
+#[derive(Clone, Copy)]
 pub struct Relative {
     pub left: bool,
     pub right: bool,
@@ -61,7 +62,7 @@ impl Relative {
 }
 
 // Six clock bytes as they stand on the line: two decimal digits each, packed.
-#[derive(Drop)]
+#[derive(Clone, Copy)]
 pub struct Clock {
     pub year: u8,
     pub month: u8,
@@ -73,7 +74,7 @@ pub struct Clock {
 
 const MOST_DIGIT: u8 = 9;
 
-#[derive(Drop)]
+#[derive(Clone, Copy)]
 pub struct TimeOfDay {
     pub clock: Clock,
 }
@@ -82,13 +83,13 @@ impl TimeOfDay {
     pub const LENGTH: usize = 7;
 }
 
-#[derive(Drop)]
+#[derive(Clone, Copy)]
 pub struct Stick {
     pub trigger: bool,
     pub position: u8,
 }
 
-#[derive(Drop)]
+#[derive(Clone, Copy)]
 pub struct BothSticks {
     pub stick0: Stick,
     pub stick1: Stick,
@@ -98,7 +99,7 @@ impl BothSticks {
     pub const LENGTH: usize = 3;
 }
 
-#[derive(Drop)]
+#[derive(Clone, Copy)]
 pub struct OneStick {
     pub which: u8,
     pub stick: Stick,
@@ -109,21 +110,21 @@ impl OneStick {
 }
 
 // These two say nothing, and are here for their lengths: each is a row of the table like the others.
-#[derive(Drop)]
+#[derive(Clone, Copy)]
 pub struct SelfTestPassed {}
 
 impl SelfTestPassed {
     pub const LENGTH: usize = 1;
 }
 
-#[derive(Drop)]
+#[derive(Clone, Copy)]
 pub struct BadByte {}
 
 impl BadByte {
     pub const LENGTH: usize = 1;
 }
 
-#[derive(Drop)]
+#[derive(Clone, Copy)]
 pub enum Report {
     More,
     KeyDown(KeyDown),
@@ -140,14 +141,14 @@ pub enum Report {
     Refused,
 }
 
-#[derive(Drop)]
+#[derive(Clone, Copy)]
 pub struct PodAnswer {
     pub state: PodState,
     pub report: Report,
 }
 
 // What a first byte opens, with what it says by itself: the key; left and right; which stick.
-#[derive(Drop)]
+#[derive(Clone, Copy)]
 enum Kind {
     KeyDown(u8),
     KeyUp(u8),

@@ -1,4 +1,5 @@
 // What an old display is told of a table (document 02's K6): ranks by beginning, the numbers of the display, and the events that tell them. The writer stands on it.
+#![tactic(auto)]
 ghost use Rattle.std.specs.Prelude.{◌≡◌, true, false, ◌&&◌, ◌||◌, cond, [], ◌++◌, ◌≤◌, ◌<◌, ◌-◌, suc, T, eqb, ltb, pos, length, drop, get_or};
 ghost use Rattle.model.specs.Panel.{records};
 ghost use Rattle.model.specs.Numbers.{eq_z};
@@ -17,7 +18,7 @@ use common::TrackingId;
 use panel::{RECORDS, Setup, Slot};
 
 // What a display was told last: ABS_X and ABS_Y, the code of the tool that is 1 (0 for none), and BTN_TOUCH.
-#[derive(Drop)]
+#[derive(Clone, Copy)]
 pub struct Pointer {
     pub x: u32,
     pub y: u32,
@@ -380,7 +381,7 @@ pub fn pointing_ok(
     clear(ranks, told)
 }
 
-#[derive(Drop)]
+#[derive(Clone, Copy)]
 pub struct Moved {
     pub ranks: [u8; RECORDS],
     pub told: Pointer,

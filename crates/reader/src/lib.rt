@@ -1,4 +1,5 @@
 // The type B reader: from event records to a contact table. A host calls ReaderState::fresh, run, read_one, load and ask.
+#![tactic(auto)]
 ghost use Rattle.std.specs.Prelude.{◌≡◌, true, [], ◌<◌, ◌≤◌, ◌*◌, length, get_or};
 ghost use Rattle.model.specs.Panel.{base, per_slot, records};
 ghost use Rattle.model.specs.Records.{events_of};
@@ -16,7 +17,7 @@ use follow::Ended;
 use panel::{RECORDS, Setup, Slot};
 
 // Tables come first, here and in the answers: one that stands beside a struct's padding is copied once more by the compiler at each call.
-#[derive(Drop)]
+#[derive(Clone, Copy)]
 pub struct ReaderState {
     pub shown: [Slot; RECORDS],
     pub pending: [Slot; RECORDS],
@@ -25,26 +26,26 @@ pub struct ReaderState {
     pub mode: Mode,
 }
 
-#[derive(Drop)]
+#[derive(Clone, Copy)]
 pub struct FreshAnswer {
     pub state: ReaderState,
     pub verdict: Verdict,
 }
 
-#[derive(Drop)]
+#[derive(Clone, Copy)]
 pub struct RunAnswer {
     pub state: ReaderState,
     pub counts: Counts,
     pub verdict: Verdict,
 }
 
-#[derive(Drop)]
+#[derive(Clone, Copy)]
 pub struct LoadAnswer {
     pub state: ReaderState,
     pub verdict: Verdict,
 }
 
-#[derive(Drop)]
+#[derive(Clone, Copy)]
 pub enum SlotAnswer {
     Contact(Slot),
     Empty,

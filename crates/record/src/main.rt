@@ -1,5 +1,6 @@
 // Makes a recording: standard input is a setup and event records, standard output that setup and blocks of 512 bytes, each with its number and its check (document 02's K2).
 // 62 records go to each block but the last. A block is written when it is full, and the last one when the input has ended. Input that was lost is recorded as SYN_DROPPED.
+#![tactic(auto)]
 ghost use Rattle.std.specs.Prelude.{◌≡◌, ◌+◌, ◌<◌, ◌≤◌, length};
 ghost use Rattle.model.specs.Recorder.{full_run};
 ghost use Rattle.record.specs.Room.{room};
@@ -12,7 +13,7 @@ use records::LENGTH;
 use stream::Out;
 
 // The output; the number of the block that comes next, 0 after the last number; whether a block was refused, after which none is written.
-#[derive(Drop)]
+#[derive(Clone, Copy)]
 struct Recording {
     out: Out,
     number: u32,
@@ -175,7 +176,7 @@ fn lose(page: &mut [u8], r: Recording, buf: &mut [u8], held: usize) -> Recording
 }
 
 // How the recording stands after a read: how many bytes of a block that is not full yet lie at the front, and whether to read on.
-#[derive(Drop)]
+#[derive(Clone, Copy)]
 struct Turn {
     recording: Recording,
     held: usize,

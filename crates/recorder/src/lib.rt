@@ -1,5 +1,6 @@
 // The shift recorder of document 02's K2: a block made of its events, a recording's next blocks laid into a lent buffer, and a lent block read.
 // `make_block`, `lay_blocks` and `read_block` are the public functions; none requires anything, and what they answer is the model's.
+#![tactic(auto)]
 ghost use Rattle.std.specs.Prelude.{◌≡◌, ◌+◌, ◌-◌, ◌≤◌, ◌<◌, min, length};
 ghost use Rattle.model.specs.Records.{low_bytes, lay};
 ghost use Rattle.model.specs.Pod.{zeros};
@@ -25,14 +26,14 @@ const CHECK: usize = 508;
 const LAST_NUMBER: usize = 4294967295;
 
 // The block is zeros where the verdict is a refusal.
-#[derive(Drop)]
+#[derive(Clone, Copy)]
 pub struct BlockMade {
     pub verdict: Verdict,
     pub block: [u8; BLOCK],
 }
 
 // `next` is the number of the block after those that were laid; 0 after the last number, and no call takes that.
-#[derive(Drop)]
+#[derive(Clone, Copy)]
 pub struct BlocksLaid {
     pub verdict: Verdict,
     pub blocks: usize,
@@ -41,7 +42,7 @@ pub struct BlocksLaid {
 }
 
 // The place and count of a block's events, or the name that it is refused by.
-#[derive(Drop)]
+#[derive(Clone, Copy)]
 pub enum BlockRead {
     Events { at: usize, count: usize },
     WrongCheck,

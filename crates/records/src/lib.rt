@@ -1,4 +1,5 @@
 // Event records: one read from a lent slice, one written to the start of a lent part. The reader and the writer stand on it.
+#![tactic(auto)]
 ghost use Rattle.std.specs.Prelude.{◌≡◌, ◌+◌, ◌≤◌, length};
 ghost use Rattle.model.specs.Records.{bits_of, signed_of, record_bytes, event_at, join16 as joined16, join32 as joined32};
 ghost use Rattle.records.specs.Seen.{event_of, word_at, over};
@@ -51,7 +52,7 @@ pub const QUADTAP: u16 = 0x14f;
 pub const QUINTTAP: u16 = 0x148;
 
 // The value is held as its 32 bits: a reader tests ranges on them, and -1 is the largest number.
-#[derive(Drop)]
+#[derive(Clone, Copy)]
 pub struct Event {
     pub kind: u16,
     pub code: u16,

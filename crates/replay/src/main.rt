@@ -1,5 +1,6 @@
 // Replays a recording: standard input is a setup and blocks of 512 bytes, as record writes them (document 02's K2); standard output is what show_table prints for their events.
 // A refused block is read as SYN_DROPPED and named on standard error. Each block is expected to carry its place, also after a refused one.
+#![tactic(auto)]
 ghost use Rattle.std.specs.Prelude.{◌≡◌};
 ghost use Rattle.model.specs.Panel.{base};
 ghost use Rattle.model.specs.Calls.{run_call};
@@ -45,7 +46,7 @@ fn judged(place: u64, piece: &[u8]) -> BlockRead
 }
 
 // The reader after a piece, what was counted for a hint, and what the piece was answered.
-#[derive(Drop)]
+#[derive(Clone, Copy)]
 struct Heard {
     state: ReaderState,
     tally: Tally,
@@ -123,7 +124,7 @@ fn is_refused(read: BlockRead) -> bool {
 }
 
 // How the reading stands: the reader, what was counted for a hint, the output; how many pieces there were, and whether one was refused; whether there is more, or a read failed.
-#[derive(Drop)]
+#[derive(Clone, Copy)]
 struct Reading {
     state: ReaderState,
     tally: Tally,

@@ -1,4 +1,5 @@
 // The events of a frame, written into a lent buffer from a position on. The writer stands on it.
+#![tactic(auto)]
 ghost use Rattle.std.specs.Prelude.{◌≡◌, ◌∷◌, ◌++◌, ◌+◌, ◌<◌, ◌≤◌, length};
 ghost use Rattle.model.specs.Panel.{records};
 ghost use Rattle.model.specs.Records.{lay};
@@ -15,7 +16,7 @@ use pointer::Pointer;
 const SLOTS: u32 = RECORDS as u32;
 
 // A number of a slot or of the display by its type and code, as it was and as it is; an id by its bits.
-#[derive(Drop)]
+#[derive(Clone, Copy)]
 struct Change {
     kind: u16,
     code: u16,
@@ -110,7 +111,7 @@ pub fn put_opened(b: &mut [u8], at: usize, s: SlotNumber, old: Slot, new: Slot) 
 }
 
 // Where a frame's contact events end, and the slot last written.
-#[derive(Drop)]
+#[derive(Clone, Copy)]
 pub struct Reached {
     pub end: usize,
     pub last: SlotNumber,

@@ -1,4 +1,5 @@
 // Shows commands to the pod: standard input is command bytes of any length, standard output a line for each; at the end of input `unfinished` where it is inside one, or `input lost` where a read failed.
+#![tactic(auto)]
 ghost use Rattle.std.specs.Prelude.{◌≡◌, ◌≤◌, length};
 ghost use Rattle.model.specs.Commands.{waits as waits_for};
 ghost use Rattle.commands.specs.Seen.{answer_seen};
@@ -38,7 +39,7 @@ fn waits(answer: Answer) -> bool
 }
 
 // The output after some commands, and the place of the bytes that wait for more.
-#[derive(Drop)]
+#[derive(Clone, Copy)]
 struct Shown {
     out: Out,
     next: usize,
@@ -62,7 +63,7 @@ fn say_commands(page: &mut [u8], out: Out, bytes: &[u8]) -> Shown
 }
 
 // The output after a read, how many bytes of a command that is not whole yet lie at the front of the buffer, and whether to read on.
-#[derive(Drop)]
+#[derive(Clone, Copy)]
 struct Turn {
     out: Out,
     held: usize,

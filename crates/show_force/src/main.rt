@@ -1,4 +1,5 @@
 // Shows a force stick's packets: standard input is bytes of any length, standard output a line for each packet; at the end of input `unfinished` where it is inside one, or `input lost` where a read failed.
+#![tactic(auto)]
 ghost use Rattle.std.specs.Prelude.{◌≡◌, ◌≤◌, length};
 ghost use Rattle.model.specs.Force.{waits as waits_for};
 ghost use Rattle.force.specs.Seen.{answer_seen};
@@ -76,7 +77,7 @@ fn waits(answer: Answer) -> bool
 }
 
 // The output after some packets, and the place of the bytes that wait for more.
-#[derive(Drop)]
+#[derive(Clone, Copy)]
 struct Shown {
     out: Out,
     next: usize,
@@ -100,7 +101,7 @@ fn say_packets(page: &mut [u8], out: Out, bytes: &[u8]) -> Shown
 }
 
 // The output after a read, how many bytes of a packet that is not whole yet lie at the front of the buffer, and whether to read on.
-#[derive(Drop)]
+#[derive(Clone, Copy)]
 struct Turn {
     out: Out,
     held: usize,

@@ -1,9 +1,10 @@
 // Shows pod reports: standard input is pod bytes of any length, standard output a line for each answer but "more"; at the end of input `more` where a report is unfinished, or `input lost` where a read failed.
+#![tactic(auto)]
 use pod::PodState;
 use stream::Out;
 
 // The pod and the output after a read, and whether to read on.
-#[derive(Drop)]
+#[derive(Clone, Copy)]
 struct Turn {
     state: PodState,
     out: Out,

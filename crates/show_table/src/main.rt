@@ -1,4 +1,5 @@
 // Document 01's small program: reads a setup and event records from standard input and shows what a fresh reader makes of them.
+#![tactic(auto)]
 use common::{Counts, Verdict};
 use ending::Tally;
 use header::Header;
@@ -6,7 +7,7 @@ use pieces::LineState;
 use stream::Out;
 
 // How the reading stands: the reader, with the bytes of a record that is cut; what it counted for a hint; whether there is more, or a read failed.
-#[derive(Drop)]
+#[derive(Clone, Copy)]
 struct Reading {
     state: LineState,
     tally: Tally,

@@ -1,5 +1,6 @@
 // Standard streams for the programs: input into a buffer, output collected on a page, words on standard error, and the status that a program ends with.
 // docs/PROGRAMS.md has what a user sees of it.
+#![tactic(auto)]
 mod status;
 
 ghost use Rattle.std.specs.Prelude.{false, ◌≡◌, ◌<◌, length};
@@ -9,7 +10,7 @@ use libc::{STDERR_FILENO, STDIN_FILENO, STDOUT_FILENO};
 pub use status::{Begun, begin, begin_with, finish};
 
 // How many bytes a read put at the start of the buffer, and why it stopped if there are no more.
-#[derive(Drop)]
+#[derive(Clone, Copy)]
 pub struct Filled {
     pub n: usize,
     pub ended: bool,
@@ -69,7 +70,7 @@ pub const REFUSED: u8 = 1;
 pub const FAILED: u8 = 2;
 
 // How many bytes at the start of a page are not written yet, whether a write failed, after which no other is made, and the status so far.
-#[derive(Drop)]
+#[derive(Clone, Copy)]
 pub struct Out {
     pub held: usize,
     pub broken: bool,

@@ -110,7 +110,7 @@ pub fn begin(name: &[u8]) -> Out {
 }
 
 // The same with whether the word was given.
-#[derive(Drop)]
+#[derive(Clone, Copy)]
 pub struct Begun {
     pub out: Out,
     pub given: bool,

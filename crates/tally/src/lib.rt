@@ -1,4 +1,5 @@
 // What changes from slot to slot of a frame: the changed slots as one number, how many numbers, and how many events tell it. The plan and the writer stand on it.
+#![tactic(auto)]
 ghost use Rattle.std.specs.Prelude.{◌≡◌, cond, ◌+◌, ◌-◌, ◌^◌, ◌<◌, ◌≤◌, ◌*◌, eqb};
 ghost use Rattle.std.specs.Int.Bits.{bit_and};
 ghost use Rattle.std.specs.Int.Count.{ones as ones_of};
@@ -48,7 +49,7 @@ fn some(d: u32) -> u32
 }
 
 // What changed so far: the slots as one number, bit s for slot s, and how many numbers.
-#[derive(Drop)]
+#[derive(Clone, Copy)]
 pub struct Changed {
     pub slots: u32,
     pub numbers: u32,

@@ -1,4 +1,5 @@
 // Pod reports, tables and numbers in words, on a page of standard output: what the programs have in common. It promises nothing about a stream but that saying ends.
+#![tactic(auto)]
 ghost use Rattle.std.specs.Prelude.{◌≡◌};
 ghost use Rattle.pod.specs.Seen.{state_after};
 
@@ -143,7 +144,7 @@ fn say_answer(page: &mut [u8], out: Out, report: Report, lines: bool) -> Out {
 }
 
 // The state after some bytes, and the output with their answers.
-#[derive(Drop)]
+#[derive(Clone, Copy)]
 pub struct Fed {
     pub state: PodState,
     pub out: Out,

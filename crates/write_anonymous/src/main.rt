@@ -1,5 +1,6 @@
 // Writes an anonymous panel's frames as events: standard input is a setup and type A records, standard output that setup and the type B records written (document 02's K12).
 // A frame is all records up to and with the next SYN_REPORT. A refusal is a line on standard error, and the next frame goes on from the state as it was. Input that was lost is passed on as SYN_DROPPED.
+#![tactic(auto)]
 ghost use Rattle.std.specs.Prelude.{◌≡◌, ◌+◌, ◌<◌, ◌≤◌, length};
 ghost use Rattle.io.specs.Counts.{IsPrefixLen};
 ghost use Rattle.model.specs.Panel.{base};
@@ -47,7 +48,7 @@ fn next_end(bytes: &[u8], from: usize) -> usize
 }
 
 // The writer's state, the output, the number of the frame that comes next, from 1, and whether that was refused for its length, so that its records are let go.
-#[derive(Drop)]
+#[derive(Clone, Copy)]
 struct Sending {
     state: WriterState,
     out: Out,
@@ -137,7 +138,7 @@ fn send_frame(page: &mut [u8], s: Sending, bytes: &[u8]) -> Sending {
 }
 
 // The sending after the whole frames, and where the last of them ended.
-#[derive(Drop)]
+#[derive(Clone, Copy)]
 struct Sent {
     sending: Sending,
     at: usize,
@@ -159,7 +160,7 @@ fn send_frames(page: &mut [u8], begun: Sending, bytes: &[u8], looked: usize) -> 
 }
 
 // What follows from the bytes behind the last whole frame: how many of them are needed later, and the sending, with the frame refused where they are too many already.
-#[derive(Drop)]
+#[derive(Clone, Copy)]
 struct Rest {
     sending: Sending,
     needed: usize,
@@ -224,7 +225,7 @@ fn lose(page: &mut [u8], s: Sending) -> Sending {
 }
 
 // How the reading stands after a read: how many bytes of a frame that is not whole yet lie at the front, and whether to read on.
-#[derive(Drop)]
+#[derive(Clone, Copy)]
 struct Turn {
     sending: Sending,
     held: usize,

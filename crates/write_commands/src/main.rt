@@ -1,4 +1,5 @@
 // Writes commands to the pod: standard input is lines as show_commands prints them for commands, standard output their bytes. A line that is refused or is no command is said on standard error, and the next goes on.
+#![tactic(auto)]
 use command_words::Line;
 use commands::Command;
 use common::Verdict;
@@ -14,7 +15,7 @@ const LINE: usize = 64;
 const ROOM: usize = 8;
 
 // The output and the pod's state, the number of the line that is being read, from 1, and whether each kind of refusal was explained.
-#[derive(Drop)]
+#[derive(Clone, Copy)]
 struct Writing {
     out: Out,
     state: PodState,
@@ -102,7 +103,7 @@ fn answer_line(page: &mut [u8], w: Writing, line: &[u8]) -> Writing {
 }
 
 // The bytes of the line so far, and whether there were more than a line may have.
-#[derive(Drop)]
+#[derive(Clone, Copy)]
 struct Held {
     count: usize,
     long: bool,
@@ -143,7 +144,7 @@ fn next_line(w: Writing) -> Writing {
 }
 
 // What is written and held between two bytes, or two reads.
-#[derive(Drop)]
+#[derive(Clone, Copy)]
 struct Turn {
     writing: Writing,
     held: Held,
@@ -233,7 +234,7 @@ fn begin(out: Out) -> Turn {
 }
 
 // The program after a read, its output, and whether to read on.
-#[derive(Drop)]
+#[derive(Clone, Copy)]
 struct Read {
     turn: Turn,
     out: Out,

@@ -1,5 +1,6 @@
 // Writes a force stick's packets: standard input is reports of 9 bytes, little-endian, x and y (16 bits, signed), throttle, buttons (16 bits), hat and rudder (signed); standard output is a packet for each.
 // A refusal is a line on standard error, and the next report goes on.
+#![tactic(auto)]
 ghost use Rattle.std.specs.Prelude.{◌≡◌, length};
 
 use common::Verdict;
@@ -29,7 +30,7 @@ fn report_of(b: &[u8]) -> Report
 }
 
 // The output, the number of the report that comes next, from 1, and whether a refusal was explained.
-#[derive(Drop)]
+#[derive(Clone, Copy)]
 struct Sending {
     out: Out,
     report: u64,
@@ -106,7 +107,7 @@ fn send_reports(page: &mut [u8], begun: Sending, bytes: &[u8]) -> Sending {
 }
 
 // How the reading stands after a read: how many bytes of a report that is not whole yet lie at the front, and whether to read on.
-#[derive(Drop)]
+#[derive(Clone, Copy)]
 struct Turn {
     sending: Sending,
     held: usize,

@@ -1,5 +1,6 @@
 // Writes frames as events: standard input is n, largest x, y, pressure, major and minor and then frames of 6n numbers, all 32-bit little-endian; standard output is that header and every record written.
 // A refusal is a line on standard error, and the next frame goes on from the state as it was. Input that was lost is passed on as SYN_DROPPED. The argument --pointer turns pointer emulation on.
+#![tactic(auto)]
 ghost use Rattle.std.specs.Prelude.{◌≡◌, ◌+◌, ◌≤◌, length, take as first};
 ghost use Rattle.model.specs.Panel.{base};
 ghost use Rattle.model.specs.Calls.{most_events};
@@ -44,7 +45,7 @@ fn numbers_of(bytes: &[u8], frame: &mut [i32]) -> usize
 }
 
 // The output and the number of the frame that comes next, from 1.
-#[derive(Drop)]
+#[derive(Clone, Copy)]
 struct Sending {
     out: Out,
     frame: u64,
@@ -134,7 +135,7 @@ fn lose(page: &mut [u8], s: Sending) -> Sending {
 }
 
 // How the reading stands after a read: how many bytes of a frame that is not whole yet lie at the front, and whether to read on.
-#[derive(Drop)]
+#[derive(Clone, Copy)]
 struct Turn {
     sending: Sending,
     held: usize,

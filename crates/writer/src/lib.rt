@@ -1,4 +1,5 @@
 // The type B writer: a fresh state, and a frame's events into the caller's buffer with the state after it; as an option also what tells an old display (document 02's K6).
+#![tactic(auto)]
 ghost use Rattle.std.specs.Prelude.{◌≡◌, length};
 ghost use Rattle.model.specs.Panel.{base};
 ghost use Rattle.model.specs.Calls.{room_for};
@@ -11,7 +12,7 @@ use panel::{PER_SLOT, RECORDS, Setup, Slot};
 use pointer::{Moved, Pointer};
 
 // In these structs the table comes first, and then the widest numbers: a table that stands beside a struct's padding is copied once more by the compiler at each call.
-#[derive(Drop)]
+#[derive(Clone, Copy)]
 pub struct WriterState {
     pub table: [Slot; RECORDS],
     // By beginning, from 0; 0 for an unused record, and always with the option off.
@@ -24,13 +25,13 @@ pub struct WriterState {
     pub pointer: bool,
 }
 
-#[derive(Drop)]
+#[derive(Clone, Copy)]
 pub struct FreshWriter {
     pub state: WriterState,
     pub verdict: Verdict,
 }
 
-#[derive(Drop)]
+#[derive(Clone, Copy)]
 pub struct Written {
     pub state: WriterState,
     pub count: usize,
@@ -54,7 +55,7 @@ fn untold() -> Moved
 }
 
 // What a writer is made of besides its table, its ranks and what it told.
-#[derive(Drop)]
+#[derive(Clone, Copy)]
 struct Own {
     setup: Setup,
     current: SlotNumber,
