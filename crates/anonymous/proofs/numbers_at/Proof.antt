@@ -56,10 +56,10 @@ pair-up-requires c κs =
     let p = c.before.before.before.before.before.before.before in (
       (olds p).few,
       (news p).few,
-      (olds p).near-x,
-      (olds p).near-y,
-      subst (λ l. Near l) (sym p.before.plain.ensures) (news p).near-x,
-      subst (λ l. Near l) (sym p.plain2.ensures) (news p).near-y,
+      (olds p).near_x,
+      (olds p).near_y,
+      subst (λ l. Near l) (sym p.before.plain.ensures) (news p).near_x,
+      subst (λ l. Near l) (sym p.plain2.ensures) (news p).near_y,
     )
 
 place-requires : tie.Need-place-requires

@@ -29,7 +29,7 @@ unused-table-requires : tie.Need-unused-table-requires invariant-loop decreases-
 unused-table-requires c κs = search rules
 
 loop-holds : tie.Need-loop-init invariant-loop decreases-loop
-loop-holds c = (search rules, search rules, search rules, c.unused-table.ensures ∙ Any.filled-start slot_from unused crane_per_slot crane_records c.before.args.image.now)
+loop-holds c = (search rules, search rules, search rules, c.unused-table.ensures ∙ Any.filled_start slot_from unused crane_per_slot crane_records c.before.args.image.now)
 
 mul_at : tie.Need-overflow-mul-at invariant-loop decreases-loop
 mul_at c = search rules
@@ -95,7 +95,7 @@ returns c =
     let l = c.before.loop in
     let u = c.before.before.before.args.setup in
     let e : l.i ≡ u.n = omega (arith, l.invariant) in
-    l.invariant.3 ∙ ap (filled c.before.before.before.args.image.now) e ∙ Any.filled-end slot_from (panel_seen u) c.before.before.before.args.image.now
+    l.invariant.3 ∙ ap (filled c.before.before.before.args.image.now) e ∙ Any.filled_end slot_from (panel_seen u) c.before.before.before.args.image.now
 
 pub image-table-spec : {M : Type 1} → statement M
 image-table-spec =

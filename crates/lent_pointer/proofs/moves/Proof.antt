@@ -81,7 +81,7 @@ returns c =
     let a = s.args in
     let w = i.before.ids-in in
     let v = i.ids-in2 in
-    stayed a.n (old s) (new s) a.slots a.last s.pre.0 (full a.old.now) (full a.new.now) w.result v.result w.ensures.0 v.ensures.0 w.ensures.1.whole v.ensures.1.whole (sym t.before.ids-stay.ensures ∙ t.if1.true) c.placed.result
+    stayed a.n (old s) (new s) a.slots a.last s.pre.0 (full a.old.now) (full a.new.now) w.result v.result w.ensures.0 v.ensures.0 w.ensures.1.whole v.ensures.1.whole (sym t.before.ids_stay.ensures ∙ t.if1.true) c.placed.result
     (c.placed.ensures ∙ ap (λ z. placed_at z (pointer_of a.last.told)) (c.before.slot-of.ensures ∙ ap (λ k. get_or (new s) k blank) oldest.oldest-slot.ensures.1))
 
 slice-aggregate-ranks-after : tie.Need-slice-aggregate-ranks-after

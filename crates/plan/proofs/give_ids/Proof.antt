@@ -254,13 +254,13 @@ turned : (b : Row) (w : Slot) (more : List ℤ) (k : ℕ)
     → Same (taken_after (becomes b) (given b) (taken b)) more → counter_after (becomes b) (given b) (top b).loop.k ≡ k
     → promised b ≡ plan_from more k (n b) (fr b) (set (t b) (s b) w) (s b + 1)
 turned b w more k e same count =
-    (known b).whole ∙ Turn.row-turn (fr b) (s b) (n b) (below b) (taken b) (top b).loop.k (t b) (inside b) w more k e same count
+    (known b).whole ∙ Turn.row_turn (fr b) (s b) (n b) (below b) (taken b) (top b).loop.k (t b) (inside b) w more k e same count
 
 -- Where nothing begins the ids taken and the counter stay.
 steady : (b : Row) (w : Slot) → slot_of w ≡ slot_after (becomes b) (given b) (slot_of (was b)) (numbers_of (row b)) → begun (becomes b) ≡ false
     → promised b ≡ plan_from (taken b) (top b).loop.k (n b) (fr b) (set (t b) (s b) w) (s b + 1)
 steady b w e f =
-    (known b).whole ∙ Turn.steady-turn (fr b) (s b) (n b) (below b) (taken b) (top b).loop.k (t b) (inside b) w e f
+    (known b).whole ∙ Turn.steady_turn (fr b) (s b) (n b) (below b) (taken b) (top b).loop.k (t b) (inside b) w e f
 
 -- Once the slot is w, of which d numbers changed, that is told too.
 telling : (b : Row) (w : Slot) (d : ℕ) → d ≤ per_slot → d ≡ changed_in (slot_of (was b)) (slot_of w)

@@ -214,7 +214,7 @@ turned : (b : Row) (w : Slot) → slot_of w ≡ slot_after (becomes b) (given b)
     → Kept (u b) (old b) (start b).args.counter (fr b) l c (s b + 1)
 turned b w e stays good l set_is c tells =
     let k = (start b).args.counter in
-    let turn = Turn.steady-turn (fr b) (s b) (n b) (below b) (taken b) k (t b) (inside b) w e stays in
+    let turn = Turn.steady_turn (fr b) (s b) (n b) (below b) (taken b) k (t b) (inside b) w e stays in
     record {
       inside = omega (arith, below b);
       slots = ap length set_is ∙ length-set (t b) (s b) w ∙ (known b).slots;

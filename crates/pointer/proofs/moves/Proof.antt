@@ -149,7 +149,7 @@ returns c =
     let a = s.args in
     let w = was-own e in
     let i = is-own e in
-    stayed a.n a.t2 a.t3 a.slots a.last s.pre (full-old s) (full s) _ _ w.0 i.0 w.1.whole i.1.whole (sym t.before.ids-stay.ensures ∙ t.if1.true) c.placed.result
+    stayed a.n a.t2 a.t3 a.slots a.last s.pre (full-old s) (full s) _ _ w.0 i.0 w.1.whole i.1.whole (sym t.before.ids_stay.ensures ∙ t.if1.true) c.placed.result
     (c.placed.ensures ∙ ap (λ k. placed_at (get_or a.t3 k blank) (pointer_of a.last.told)) oldest.oldest-slot.ensures.1)
 
 slice-aggregate-ranks-after : tie.Need-slice-aggregate-ranks-after invariant-loop decreases-loop

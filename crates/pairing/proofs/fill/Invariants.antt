@@ -1,0 +1,14 @@
+-- `pairing::fill` meets its contract. The invariant: the tables are those of the old contacts from i on. Assumes nothing.
+use mathlib.Core.Path.{◌≡◌}
+use Prim.Native.Nat.{suc, ◌-◌, ◌<◌}
+use native.Mathlib.Omega.{arith}
+use borrow.Author.Rules.{rules}
+use Rattle.model.specs.Pairing.{points}
+use Rattle.pairing.proofs.Filled.{Filled, filled_start, filled_low, filled_next, filled_move}
+use Rattle.pairing.proofs.fill.Given as goal
+
+abbrev pub invariant-loop-i : goal.invariant-loop-i
+invariant-loop-i l = Filled (points l.news 0 l.nx l.ny) l.ox l.oy l.olds l.news l.i l.row l.made
+
+abbrev pub decreases-loop-i : goal.decreases-loop-i
+decreases-loop-i l = l.i

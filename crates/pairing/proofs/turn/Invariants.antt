@@ -1,0 +1,12 @@
+-- `pairing::turn` meets its contract. The invariant: the sets from `free` on are made, and the smaller ones as they were. Assumes nothing.
+use Prim.Native.Nat.{◌-◌}
+use native.Mathlib.Omega.{arith}
+use borrow.Author.Rules.{rules}
+use Rattle.pairing.proofs.Rows.{Part, part-start, part_low, part-next, part_end}
+use Rattle.pairing.proofs.turn.Given as goal
+
+abbrev pub invariant-loop-free : goal.invariant-loop-free
+invariant-loop-free l = Part l.offers l.initial.row l.row l.initial.made l.made l.i l.all l.free
+
+abbrev pub decreases-loop-free : goal.decreases-loop-free
+decreases-loop-free l = l.free
