@@ -1,0 +1,16 @@
+-- `common::last_mode`: the mode after the records that are left. The loop has passed i records. Assumes nothing.
+use borrow.Author.Rules.{rules}
+use mathlib.Core.Path.{◌≡◌, sym, ap, ◌∙◌}
+use Prim.Native.Nat.{◌+◌, ◌-◌, ◌*◌, ◌/◌, ◌≤◌}
+use lib.ListN.{length}
+use Rattle.model.specs.Records.{events_from}
+use Rattle.common.specs.Lost.{on_lost, heard, last_mode}
+use Rattle.common.proofs.Lost.{last-next, last_end}
+use Rattle.common.specs.Seen.{mode_of}
+use Rattle.common.proofs.last_mode.Given as goal
+
+abbrev pub invariant-loop-i : goal.invariant-loop-i
+invariant-loop-i l = (l.i ≤ l.count) × (last_mode (mode_of l.initial.mode) (events_from (l.count - l.initial.i) l.bytes (8 * l.initial.i)) ≡ last_mode (mode_of l.mode) (events_from (l.count - l.i) l.bytes (8 * l.i)))
+
+abbrev pub decreases-loop-i : goal.decreases-loop-i
+decreases-loop-i l = l.count - l.i
