@@ -1,0 +1,6 @@
+-- `commands::absolute_of`: two numbers of 16 bits, the high byte first. Assumes nothing.
+use borrow.Author.Rules.{rules}
+use Rattle.commands.proofs.absolute_of.Goals as goal
+
+pub returns : goal.returns
+returns c = rw (c.join-x.ensures, c.join-y.ensures)

@@ -1,0 +1,21 @@
+-- `commands::put_three` stores three bytes at the start of a lent part. Assumes nothing.
+use mathlib.Core.List.{[], ◌∷◌}
+use native.Mathlib.Omega.{arith}
+use lib.ListN.{length-set}
+use lib.Seq.{sets-eq}
+use borrow.Author.Rules.{rules}
+use Rattle.records.specs.Seen.{over}
+use Rattle.commands.proofs.put_three.Goals as goal
+
+pub bounds-b-1 : goal.bounds-b-1
+bounds-b-1 c = simp length-set (omega arith)
+
+pub bounds-b-2 : goal.bounds-b-2
+bounds-b-2 c = simp length-set (omega arith)
+
+pub shape_of-b : goal.shape_of-b
+shape_of-b c = simp length-set
+
+pub returns : goal.returns
+unfolding over
+returns c = sets-eq (c.args.first ∷ c.args.x ∷ c.args.y ∷ []) c.args.b.now 0 c.requires

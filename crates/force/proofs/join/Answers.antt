@@ -1,0 +1,7 @@
+-- `force::join` is two bytes as a number, the lower first. By itself it would be proved too; a wrong one then fails at its callers. Assumes nothing.
+use mathlib.Core.Path.{refl}
+use borrow.Author.Rules.{rules}
+use Rattle.force.proofs.join.Goals as goal
+
+pub returns : goal.returns
+returns c = refl

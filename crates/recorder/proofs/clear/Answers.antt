@@ -1,0 +1,30 @@
+-- `recorder::clear` meets its contract: the bits of the bytes before i are joined, and all bytes are zero if these and those from i on are. Assumes nothing.
+use mathlib.Core.Path.{◌≡◌, refl, sym, ap, ◌∙◌}
+use mathlib.Core.Bool.{◌&&◌, and-true}
+use mathlib.Core.List.{List}
+use Prim.Native.Nat.{ℕ, ◌-◌, ◌≤◌}
+use native.Mathlib.Omega.{arith}
+use lib.Dec.{eqb}
+use lib.ListN.{length, take, length-take, drop_of_length-le}
+use borrow.Author.Rules.{rules}
+use Rattle.model.specs.Pod.{zeros}
+use Rattle.model.specs.Recorder.{part}
+use Rattle.recorder.proofs.Laws.{clear_turn}
+use Rattle.recorder.proofs.clear.Invariants.{Joined}
+use Rattle.recorder.proofs.clear.Goals as goal
+
+pub loop-i-init : goal.loop-i-init
+loop-i-init c = record { begun = omega arith; zero = refl }
+
+pub loop-i-preserved : goal.loop-i-preserved
+loop-i-preserved c =
+    let l = c.loop-i in
+    let a = c.args in
+    record { begun = omega (arith, l.invariant.begun); zero = l.invariant.zero ∙ clear_turn a.b.now l.bits l.i a.to (search rules) (search rules) }
+
+pub returns : goal.returns
+returns c =
+    let l = c.loop-i in
+    let a = c.args in
+    let past : length (take a.to a.b.now) ≤ l.i = omega (arith, length-take a.to a.b.now) in
+    sym (l.invariant.zero ∙ ap (λ p. eqb l.bits 0 && zeros p) (drop_of_length-le (take a.to a.b.now) past) ∙ and-true (eqb l.bits 0))
