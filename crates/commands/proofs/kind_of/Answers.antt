@@ -2,6 +2,7 @@
 use mathlib.Core.Path.{sym, ap}
 use Rattle.model.specs.Commands.{kind_of}
 use Rattle.model.proofs.CommandReads.{other-kind}
+use native.Mathlib.Omega.{arith}
 use Rattle.commands.proofs.kind_of.Goals as goal
 
 pub returns-in-128 : goal.returns-in-128
