@@ -2,11 +2,7 @@
 use mathlib.Core.Path.{refl}
 use lib.Count.{ones-le}
 use Rattle.model.specs.Panel.{records}
-use Rattle.tally.proofs.ones.Statement.{statement}
-use Rattle.tally.proofs.ones.Tie as tie
+use Rattle.tally.proofs.ones.Goals as goal
 
-returns : tie.Need-returns
+pub returns : goal.returns
 returns c = (ones-le records c.args.mask c.ranges.mask.fits, refl)
-
-pub ones-spec : {M : Type 1} → statement M
-ones-spec = tie.close (tie.spec returns)
