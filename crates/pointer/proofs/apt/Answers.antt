@@ -53,16 +53,16 @@ full-at-After-pointed-p : (s : After-pointed-p) → length s.args.t ≡ records
 full-at-After-pointed-p s = search rules
 
 -- The three tests of a state with the option on.
-ranks-told : (k : After-ranks_good) → (let a = k.args in k.ranks_good.result ≡ good_ranks (ids (table_of a.t2)) a.t3)
+ranks-told : (k : After-ranks_good) → (let a = k.args in k.ranks_good.result ≡ good_ranks (ids (table_of a.t)) a.ranks)
 ranks-told k = k.ranks_good.ensures ∙ ap (λ l. good_ranks l k.args.ranks) (own-at-After-ranks_good k).0
 
 abbrev equal : After-ranks_good → Bool
-equal k = let a = k.args in eq_pointer (pointer_of a.told) (pointed (table_of a.t2) a.t3 (pointer_of a.told))
+equal k = let a = k.args in eq_pointer (pointer_of a.told) (pointed (table_of a.t) a.ranks (pointer_of a.told))
 
 abbrev range : After-ranks_good → Bool
 range k = let a = k.args in in_range (fields_of a.setup) (pointer_of a.told).x (pointer_of a.told).y
 
-shown : (p : After-pointed-p) → (let a = p.args in pointer_of p.pointed-p.result ≡ pointed (table_of a.t2) a.t3 (pointer_of a.told))
+shown : (p : After-pointed-p) → (let a = p.args in pointer_of p.pointed-p.result ≡ pointed (table_of a.t) a.ranks (pointer_of a.told))
 shown p =
     let live = p in
     let oldest = live in
@@ -71,9 +71,9 @@ shown p =
     let a = k.args in
     let q = pointer_of a.told in
     let o = own-at-After-pointed-p k in
-    let good : T (good_ranks k.loop-i.ids a.t3) = holds _ (sym k.ranks_good.ensures ∙ e.if-not-ranks_good.false) in
-    p.pointed-p.ensures ∙ ap₂ (λ m i. shown_of m (get_or a.t2 i blank) q) live.live_count.ensures.0 oldest.oldest_slot-k.ensures.1
-    ∙ shown-is a.t2 a.t3 q (full-at-After-pointed-p k) k.loop-i.ids o.0 o.1.whole good
+    let good : T (good_ranks k.loop-i.ids a.ranks) = holds _ (sym k.ranks_good.ensures ∙ e.if-not-ranks_good.false) in
+    p.pointed-p.ensures ∙ ap₂ (λ m i. shown_of m (get_or a.t i blank) q) live.live_count.ensures.0 oldest.oldest_slot-k.ensures.1
+    ∙ shown-is a.t a.ranks q (full-at-After-pointed-p k) k.loop-i.ids o.0 o.1.whole good
 
 -- ---- the needs
 

@@ -16,5 +16,5 @@ returns-then-not-on c =
     let a = s.args in
     let q = pointer_of a.q in
     let z = pointer_of a.z in
-    let same : q ≡ z = subst (λ b. StillIf b q z) (not-true a.on c.if-not-on.true) s.requires in
+    let same : q ≡ z = subst (λ b. StillIf b q z) c.if-not-on.true s.requires in
     (sym (ap (λ p. length (emulated q p)) (sym same) ∙ ap length (emulated_self q)), omega arith)

@@ -76,7 +76,7 @@ loop-left-preserved c =
     let a = i.args in
     let same = sym (told (goal.at.loop-left-preserved p).After-same) ∙ c.if-not-same.false in
     record {
-      bits = omega (arith, loop-less c, l.invariant.bits);
+      bits = omega (arith, fewer l.left (l.left - 1) (omega (arith, nonzero (goal.at.loop-left-preserved i).In-loop-left)), l.invariant.bits);
       rest = l.invariant.rest ∙ stays-turn a.old.now a.new.now l.left (nonzero (goal.at.loop-left-preserved i).In-loop-left) l.invariant.bits same;
     }
 
