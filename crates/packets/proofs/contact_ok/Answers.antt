@@ -4,18 +4,11 @@ use mir.Syntax.{w32}
 use mir.ValLaws.{to_z-of_z}
 use Rattle.packets.proofs.Steps.{row_same}
 use borrow.Author.Rules.{rules}
-use Rattle.packets.proofs.contact_ok.Statement.{statement}
-use Rattle.packets.proofs.contact_ok.Tie as tie
+use Rattle.packets.proofs.contact_ok.Goals as goal
 
-row-ok-requires : tie.Need-row-ok-requires
-row-ok-requires c κs = search rules
-
-returns : tie.Need-returns
+pub returns : goal.returns
 returns c =
-    let s = c.before in
+    let s = c in
     let a = s.args in
     c.row_ok.ensures
     ∙ row_same a.setup (to_z-of_z w32 a.x s.ranges.x) (to_z-of_z w32 a.y s.ranges.y) (to_z-of_z w32 a.pressure s.ranges.pressure)
-
-pub contact-ok-spec : {M : Type 1} → statement M
-contact-ok-spec = tie.close (tie.spec row-ok-requires returns)
