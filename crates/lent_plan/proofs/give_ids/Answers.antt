@@ -151,6 +151,7 @@ at-at-After-after-k b = record {
   below = below-at-After-after-k b;
   tells = (known-at-After-after-k b).tells;
   is = b.slot_of-was.ensures;
+}
 
 at-at-After-slice_known-else-begins-1 : (b : After-slice_known-else-begins-1) → Next (u-at-After-slice_known-else-begins-1 b) (table_in b.args.old.now) (table_in b.loop-s.t) b.args.counter (fr-at-After-slice_known-else-begins-1 b) (s-at-After-slice_known-else-begins-1 b) b.loop-s.changes b.slot_of-was.result
 at-at-After-slice_known-else-begins-1 b = record {
@@ -160,7 +161,6 @@ at-at-After-slice_known-else-begins-1 b = record {
   below = below-at-After-slice_known-else-begins-1 b;
   tells = (known-at-After-slice_known-else-begins-1 b).tells;
   is = b.slot_of-was.ensures;
-
 }
 
 -- There is a place left among the taken ids.

@@ -109,7 +109,6 @@ at b = record {
   below = below b;
   tells = (known-at-After-same b).tells;
   is = b.slot_of-was.ensures;
-
 }
 
 -- The row's kind, read through its bits.
@@ -145,7 +144,6 @@ onward b good l rest c tells = record {
   good = (known-at-After-same b).good ∙ Turn.good_turn (fr b) (s b) (n b) (below b) (u b) ∙ first-true _ _ good;
   whole = (known-at-After-same b).whole ∙ rest;
   tells = tells;
-
 }
 
 -- Slot s is w in the table l, and no contact began in it.
@@ -288,7 +286,7 @@ pub returns-then-begins : goal.returns-then-begins
 returns-then-begins c =
     let g = c in
     let b = g in
-    let new = table_in g.give_ids.new.1.1.1.1.1.0 in
+    let new = table_in g.give_ids.new.t in
     subst (λ v. PlansIn v (n (goal.at.returns-then-begins b).After-same) (table_in b.args.old.now) (k (goal.at.returns-then-begins b).After-same) (framed (k (goal.at.returns-then-begins b).After-same) (rows_from per_slot (n (goal.at.returns-then-begins b).After-same) (fr (goal.at.returns-then-begins b).After-same) 0) (table_of (table_in b.args.old.now))) g.give_ids.result new) (sym (known (goal.at.returns-then-begins b).At-loop-s).good)
     (subst (λ p. PlansIn (rows_good (u (goal.at.returns-then-begins b).After-same) (fr (goal.at.returns-then-begins b).After-same) (s (goal.at.returns-then-begins b).After-same)) (n (goal.at.returns-then-begins b).After-same) (table_in b.args.old.now) (k (goal.at.returns-then-begins b).After-same) p g.give_ids.result new) (sym (known (goal.at.returns-then-begins b).At-loop-s).whole) g.give_ids.ensures)
 

@@ -17,8 +17,7 @@ use Rattle.pieces.specs.declared.LineState.{LineState}
 use Rattle.pieces.specs.declared.LoadAnswer.{LoadAnswer}
 use Rattle.pieces.specs.Seen.{seen, loaded_from}
 use Rattle.pieces.proofs.Held.{state_back}
-use Rattle.pieces.proofs.load.Statement.{statement}
-use Rattle.pieces.proofs.load.Tie as tie
+use Rattle.pieces.proofs.load.Goals as goal
 
 -- The model's answer, where the test of the left-over bytes is known.
 by_test : (s : LineState) (m : List ℤ) (k : ℕ) (b : Bool) → left_good s.left s.count ≡ b
@@ -30,29 +29,20 @@ by_test s m k b e =
     load_by_left base (seen s) m k
     ∙ ap {B = LineLoaded} (λ t. cond t (record { verdict = a.verdict; state = beside (seen s) a.state }) (record { verdict = C.state; state = seen s })) e
 
-left-ok-requires : tie.Need-left-ok-requires
-left-ok-requires c κs = search rules
-
-returns : tie.Need-returns
-returns c =
-    let a = c.before.before.before.args in
-    let k = c.before.left-ok in
-    let bad = sym k.ensures ∙ not-true k.result c.if1.true in
+pub returns-then-not-left_ok : goal.returns-then-not-left_ok
+returns-then-not-left_ok c =
+    let a = c.args in
+    let k = c.left_ok in
+    let bad = sym k.ensures ∙ c.if-not-left_ok.true in
     ap {B = LoadAnswer} (λ s. record { verdict = State; state = s }) (sym (state_back a.state))
     ∙ sym (ap loaded_from (by_test a.state a.image.now a.current.0 _ bad))
 
-load-requires : tie.Need-load-requires
-load-requires c κs = search rules
-
-returns-2 : tie.Need-returns-2
-returns-2 c =
-    let a = c.before.before.before.before.before.before.args in
-    let k = c.before.before.before.before.left-ok in
-    let good = sym k.ensures ∙ not-false k.result c.before.before.before.if1.false in
+pub returns : goal.returns
+returns c =
+    let a = c.args in
+    let k = c.left_ok in
+    let good = sym k.ensures ∙ c.if-not-left_ok.false in
     let s = a.state in
     ap {B = LoadAnswer} (λ (q : R.LoadAnswer). record { verdict = q.verdict; state = record { left = s.left; count = s.count; reader = q.state } })
-    c.before.load.ensures
+    c.load-loaded.ensures
     ∙ sym (ap loaded_from (by_test a.state a.image.now a.current.0 _ good))
-
-pub load_spec : {M : Type 1} → statement M
-load_spec = tie.close (tie.spec left-ok-requires returns load-requires returns-2)

@@ -24,8 +24,8 @@ use Rattle.pieces.specs.declared.TakeAnswer.{TakeAnswer}
 use Rattle.pieces.specs.Seen.{seen, taken_from, unread_from, took_from}
 use Rattle.pieces.proofs.Held.{state_back}
 use Rattle.pieces.proofs.Runs.{judged, judged-few, took_first}
-use Rattle.pieces.proofs.take.Statement.{statement}
-use Rattle.pieces.proofs.take.Tie as tie
+use Rattle.pieces.proofs.take.Goals.{Else-not-state_ok, Start}
+use Rattle.pieces.proofs.take.Goals as goal
 
 -- ---- by the tests
 
@@ -66,122 +66,74 @@ module _ (s : LineState) (piece : List ℕ) (r : reader_good base (seen s).reade
   first : (b : RunAnswer) → s.count ≡ 0 → b ≡ judged s.reader piece → took_from (counts_from nothing) b piece ≡ taken_from (take_call base (seen s) piece)
   first b e q = reads (took_first s.reader piece b r q ∙ ap (λ n. taken_from (read_string base (seen s).reader (take n s.left ++ piece))) (sym e))
 
--- ---- past both tests
+left-good : (c : Else-not-state_ok) → left_good c.args.state.left c.args.state.count ≡ true
+left-good c = let k = c in sym k.left_ok.ensures ∙ c.if-not-left_ok.false
 
-abbrev given : tie.Else2 → tie.Start
-given c = c.before.before.before.before.before.before.before
+reader-good : (c : Else-not-state_ok) → reader_good base (R.seen c.args.state.reader) ≡ true
+reader-good c = sym c.state_ok.ensures ∙ c.if-not-state_ok.false
 
-left-good : (c : tie.Else2) → left_good (given c).args.state.left (given c).args.state.count ≡ true
-left-good c = let k = c.before.before.before in sym k.left-ok.ensures ∙ not-false k.left-ok.result c.before.before.if1.false
-
-reader-good : (c : tie.Else2) → reader_good base (R.seen (given c).args.state.reader) ≡ true
-reader-good c = sym c.before.state-ok.ensures ∙ not-false c.before.state-ok.result c.if2.false
-
-piece-fits : (c : tie.Start) → length c.args.piece.now < 2 ^ 64
+piece-fits : (c : Start) → length c.args.piece.now < 2 ^ 64
 piece-fits c = search rules
 
-few : (c : tie.Else2) → (given c).args.state.count ≤ places
+few : (c : Else-not-state_ok) → c.args.state.count ≤ places
 few c =
-    let s = (given c).args.state in
+    let s = c.args.state in
     leb-true s.count places (and_left (leb s.count places) _ (and_right (eqb (length s.left) places) _ (left-good c)))
 
-left-ok-requires : tie.Need-left-ok-requires
-left-ok-requires c κs = search rules
-
-unread-requires : tie.Need-unread-requires
-unread-requires c κs = search rules
-
-returns : tie.Need-returns
-returns c =
-    let k = c.before.before in
-    let a = k.before.before.before.before.args in
-    let bad = sym k.left-ok.ensures ∙ not-true k.left-ok.result c.before.if1.true in
+pub returns-then-not-left_ok : goal.returns-then-not-left_ok
+returns-then-not-left_ok c =
+    let k = c in
+    let a = k.args in
+    let bad = sym k.left_ok.ensures ∙ c.if-not-left_ok.true in
     c.unread.ensures ∙ refused a.state (bad-left a.state bad) a.piece.now
 
-state-ok-requires : tie.Need-state-ok-requires
-state-ok-requires c κs = search rules
+pub returns-then-not-state_ok : goal.returns-then-not-state_ok
+returns-then-not-state_ok c =
+    let k = c in
+    let a = k.args in
+    let bad = sym k.state_ok.ensures ∙ c.if-not-state_ok.true in
+    c.unread-then-not-state_ok.ensures ∙ refused a.state (bad-reader a.state bad) a.piece.now
 
-unread-requires-2 : tie.Need-unread-requires-2
-unread-requires-2 c κs = search rules
+pub overflow_sub-count : goal.overflow_sub-count
+overflow_sub-count c = omega (arith, few (goal.at.overflow_sub-count c).Else-not-state_ok)
 
-returns-2 : tie.Need-returns-2
-returns-2 c =
-    let k = c.before.before in
-    let a = k.before.before.before.before.before.before.args in
-    let bad = sym k.state-ok.ensures ∙ not-true k.state-ok.result c.before.if2.true in
-    c.unread2.ensures ∙ refused a.state (bad-reader a.state bad) a.piece.now
+pub longer-requires : goal.longer-requires
+longer-requires c = (left-good (goal.at.longer-requires c).Else-not-state_ok, omega (arith, c.if-piece-count.true, few (goal.at.longer-requires c).Else-not-state_ok))
 
-sub-if3 : tie.Need-overflow-sub-if3
-sub-if3 c = omega (arith, few c)
+pub returns-then-piece-count : goal.returns-then-piece-count
+returns-then-piece-count c =
+    let k = c in
+    let a = k.args in
+    let h : a.state.count + length a.piece.now ≤ places = omega (arith, c.if-piece-count.true, few (goal.at.returns-then-piece-count k).Else-not-state_ok) in
+    c.unread-then-piece-count.ensures ∙ kept a.state a.piece.now (reader-good (goal.at.returns-then-piece-count k).Else-not-state_ok) (left-good (goal.at.returns-then-piece-count k).Else-not-state_ok) c.longer.result c.longer.ensures h
 
-add-all : tie.Need-overflow-add-all
-add-all c = search rules
+pub run_accepted-requires : goal.run_accepted-requires
+run_accepted-requires c = reader-good (goal.at.run_accepted-requires c).Else-not-state_ok
 
-longer-requires : tie.Need-longer-requires
-longer-requires c κs = (left-good c.before, omega (arith, c.if3.true, few c.before))
+pub took-requires : goal.took-requires
+took-requires c =
+    let k = c in
+    let a = k.args in
+    let none = ap (λ n. total (counts_of n)) c.none.ensures in
+    let ran = judged-few a.state.reader a.piece.now c.run_accepted.result (reader-good (goal.at.took-requires k).Else-not-state_ok) c.run_accepted.ensures in
+    omega (arith, none, ran, piece-fits (goal.at.took-requires k).Start)
 
-unread-requires-3 : tie.Need-unread-requires-3
-unread-requires-3 c κs = search rules
-
-returns-3 : tie.Need-returns-3
-returns-3 c =
-    let k = c.before.before.before in
-    let a = (given k).args in
-    let h : a.state.count + length a.piece.now ≤ places = omega (arith, c.before.before.if3.true, few k) in
-    c.unread3.ensures ∙ kept a.state a.piece.now (reader-good k) (left-good k) c.before.longer.result c.before.longer.ensures h
-
-none-requires : tie.Need-none-requires
-none-requires c κs = search rules
-
-run-accepted-requires : tie.Need-run-accepted-requires
-run-accepted-requires c κs = reader-good c.before.before.before
-
-took-requires : tie.Need-took-requires
-took-requires c κs =
-    let k = c.before.before.before.before in
-    let a = (given k).args in
-    let none = ap (λ n. total (counts_of n)) c.before.none.ensures in
-    let ran = judged-few a.state.reader a.piece.now c.run-accepted.result (reader-good k) c.run-accepted.ensures in
-    omega (arith, none, ran, piece-fits (given k))
-
-returns-4 : tie.Need-returns-4
-returns-4 c =
-    let k = c.before.before.before.before.before in
-    let a = (given k).args in
-    let ran = c.before.run-accepted in
+pub returns-then-count-eq0 : goal.returns-then-count-eq0
+returns-then-count-eq0 c =
+    let k = c in
+    let a = k.args in
+    let ran = c.run_accepted in
     c.took.ensures
-    ∙ ap (λ n. took_from n ran.result a.piece.now) c.before.before.none.ensures
-    ∙ first a.state a.piece.now (reader-good k) (left-good k) ran.result c.before.before.before.if4.true ran.ensures
+    ∙ ap (λ n. took_from n ran.result a.piece.now) c.none.ensures
+    ∙ first a.state a.piece.now (reader-good (goal.at.returns-then-count-eq0 k).Else-not-state_ok) (left-good (goal.at.returns-then-count-eq0 k).Else-not-state_ok) ran.result c.if-count-eq0.true ran.ensures
 
-take-cut-requires : tie.Need-take-cut-requires
-take-cut-requires c κs =
-    let k = c.before.before in
-    (reader-good k, few k, omega (arith, c.before.if3.false, few k))
+pub take_cut-requires : goal.take_cut-requires
+take_cut-requires c =
+    let k = c in
+    (reader-good (goal.at.take_cut-requires k).Else-not-state_ok, few (goal.at.take_cut-requires k).Else-not-state_ok, omega (arith, c.if-piece-count.false, few (goal.at.take_cut-requires k).Else-not-state_ok))
 
-returns-5 : tie.Need-returns-5
-returns-5 c =
-    let k = c.before.before.before in
-    let a = (given k).args in
-    reads a.state a.piece.now (reader-good k) (left-good k) c.take-cut.ensures
-
-pub take_spec : {M : Type 1} → statement M
-take_spec =
-    tie.close
-    (tie.spec
-    left-ok-requires
-    unread-requires
-    returns
-    state-ok-requires
-    unread-requires-2
-    returns-2
-    sub-if3
-    add-all
-    longer-requires
-    unread-requires-3
-    returns-3
-    none-requires
-    run-accepted-requires
-    took-requires
-    returns-4
-    take-cut-requires
-    returns-5)
+pub returns : goal.returns
+returns c =
+    let k = c in
+    let a = k.args in
+    reads a.state a.piece.now (reader-good (goal.at.returns k).Else-not-state_ok) (left-good (goal.at.returns k).Else-not-state_ok) c.take_cut.ensures

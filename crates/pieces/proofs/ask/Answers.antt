@@ -11,32 +11,22 @@ use Rattle.common.specs.declared.Verdict.TheVariants.{State}
 use Rattle.reader.specs.declared.SlotAnswer.TheVariants.{Refused}
 use Rattle.reader.specs.Seen.{AnswersAs}
 use Rattle.pieces.specs.Seen.{seen}
-use Rattle.pieces.proofs.ask.Statement.{statement}
-use Rattle.pieces.proofs.ask.Tie as tie
+use Rattle.pieces.proofs.ask.Goals as goal
 
-left-ok-requires : tie.Need-left-ok-requires
-left-ok-requires c κs = search rules
-
-returns : tie.Need-returns
-returns c =
-    let a = c.before.before.before.args in
-    let k = c.before.left-ok in
+pub returns-then-not-left_ok : goal.returns-then-not-left_ok
+returns-then-not-left_ok c =
+    let a = c.args in
+    let k = c.left_ok in
     let s = seen a.state in
-    let bad = sym k.ensures ∙ not-true k.result c.if1.true in
+    let bad = sym k.ensures ∙ c.if-not-left_ok.true in
     let e = ask_by_left base s a.slot.0 ∙ ap (λ b. cond b (ask_call base s.reader a.slot.0) (refused C.state)) bad in
     subst (λ q. AnswersAs q (Refused State)) (sym e) (record { answer = refl; number = refl; values = refl })
 
-ask-requires : tie.Need-ask-requires
-ask-requires c κs = search rules
-
-returns-2 : tie.Need-returns-2
-returns-2 c =
-    let a = c.before.before.before.before.before.args in
-    let k = c.before.before.before.left-ok in
+pub returns : goal.returns
+returns c =
+    let a = c.args in
+    let k = c.left_ok in
     let s = seen a.state in
-    let good = sym k.ensures ∙ not-false k.result c.before.before.if1.false in
+    let good = sym k.ensures ∙ c.if-not-left_ok.false in
     let e = ask_by_left base s a.slot.0 ∙ ap (λ b. cond b (ask_call base s.reader a.slot.0) (refused C.state)) good in
     subst (λ q. AnswersAs q c.ask.result) (sym e) c.ask.ensures
-
-pub ask-spec : {M : Type 1} → statement M
-ask-spec = tie.close (tie.spec left-ok-requires returns ask-requires returns-2)

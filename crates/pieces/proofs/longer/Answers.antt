@@ -6,22 +6,12 @@ use borrow.Author.Rules.{rules}
 use Rattle.model.specs.Pieces.{places}
 use Rattle.model.proofs.Bools.{and_right}
 use Rattle.pieces.proofs.Laid.{more-laid}
-use Rattle.pieces.proofs.longer.Statement.{statement}
-use Rattle.pieces.proofs.longer.Tie as tie
+use Rattle.pieces.proofs.longer.Goals as goal
 
-slice-aggregate-lay : tie.Need-slice-aggregate-lay
-slice-aggregate-lay c = search rules
-
-lay-requires : tie.Need-lay-requires
-lay-requires c κs = search rules
-
-returns : tie.Need-returns
+pub returns : goal.returns
 returns c =
-    let e = c.before.before.before.before in
+    let e = c in
     let a = e.args in
     let l : length a.left ≡ places = search rules in
     let clear = and_right (leb a.count places) _ (and_right (eqb (length a.left) places) _ e.requires.0) in
-    c.before.lay.ensures ∙ more-laid a.left a.piece.now a.count l clear e.requires.1
-
-pub longer-spec : {M : Type 1} → statement M
-longer-spec = tie.close (tie.spec slice-aggregate-lay lay-requires returns)
+    c.lay.ensures ∙ more-laid a.left a.piece.now a.count l clear e.requires.1
