@@ -39,7 +39,7 @@ use Rattle.lent.proofs.Tables.{slots_length}
 use Rattle.lent_follow.specs.InPlace.{both_size, shown_in, pending_in}
 use Rattle.lent_follow.proofs.Runs.{Runs, goes_on}
 use Rattle.lent_follow.proofs.Words.{id-stored, x-stored, y-stored, pressure-stored, major-stored, minor-stored}
-use Rattle.lent_follow.proofs.follow.Goals.{then-written+else-not-ids_differ, else-written, After-id_ok, After-word_at-value}
+use Rattle.lent_follow.proofs.follow.Goals.{then-written+else-not-ids_apart, else-written, After-id_ok, After-word_at-value}
 use Rattle.lent_follow.proofs.follow.Goals as goal
 
 abbrev setup : After-word_at-value → Setup
@@ -173,7 +173,7 @@ loop-k-preserved-in-Report c =
     let l = p.loop-k in
     let e = asked (goal.at.loop-k-preserved-in-Report p).After-word_at-value _ told.in-Report.is in
     let differ : ids_differ (table_of (pending_in l.t)) ≡ true =
-        elim c.if-written.branch [ then-written+else-not-ids_differ w ↦ sym w.ids_differ.ensures ∙ w.if-not-ids_differ.false | else-written w ↦ l.invariant.kept.pends.apart w.if-written.false ] in
+        elim c.if-written.branch [ then-written+else-not-ids_apart w ↦ sym w.ids_apart.ensures ∙ w.if-not-ids_apart.false | else-written w ↦ l.invariant.kept.pends.apart w.if-written.false ] in
     goes_on _ (search rules) g.show.ensures (kept-report l.invariant.kept (inside (goal.at.loop-k-preserved-in-Report p).After-word_at-value) (pending_in l.t) _ refl e differ)
 
 pub drops-requires : goal.drops-requires
