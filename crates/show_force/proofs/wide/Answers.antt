@@ -5,18 +5,11 @@ use lib.IntN.{ℤ, pos, negsuc}
 use mir.Syntax.{w16, w32}
 use mir.Val.{SFits}
 use mir.ValLaws.{to_z-of_z}
-use Rattle.show_force.proofs.wide.Statement.{statement}
-use Rattle.show_force.proofs.wide.Tie as tie
+use Rattle.show_force.proofs.wide.Goals as goal
 
 wider : (v : ℤ) → SFits w16 v → SFits w32 v
 wider (pos n) f = record { sfits = omega (arith, f.sfits) }
 wider (negsuc n) f = record { sfits = omega (arith, f.sfits) }
 
-cast-result : tie.Need-overflow-cast-result
-cast-result c = rw (to_z-of_z w16 c.args.v c.ranges.v) (wider c.args.v c.ranges.v)
-
-returns : tie.Need-returns
-returns c = search rules
-
-pub wide_spec : {M : Type 1} → statement M
-wide_spec = tie.close (tie.spec cast-result returns)
+pub overflow_cast-result : goal.overflow_cast-result
+overflow_cast-result c = rw (to_z-of_z w16 c.args.v c.ranges.v) (wider c.args.v c.ranges.v)
