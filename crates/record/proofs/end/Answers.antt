@@ -1,6 +1,5 @@
 -- `record::end` lends no byte past those lent to it. Assumes nothing.
 use mathlib.Core.Path.{sym}
-use lib.ListN.{length}
 use lib.Seq.{length-take-le}
 use borrow.Author.Rules.{rules}
 use Rattle.record.proofs.end.Goals as goal

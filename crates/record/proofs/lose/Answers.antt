@@ -1,6 +1,5 @@
 -- `record::lose` has room for one record behind the bytes that are held. Assumes nothing.
 use mathlib.Core.Path.{sym}
-use lib.ListN.{length}
 use lib.Seq.{length-take-le}
 use borrow.Author.Rules.{rules}
 use Rattle.record.proofs.lose.Goals as goal

@@ -4,7 +4,6 @@ use mathlib.Core.Path.{◌≡◌}
 use lib.ListN.{length}
 use Rattle.model.specs.Recorder.{full_run}
 use Rattle.record.specs.Room.{room}
-use borrow.Author.Rules.{rules}
 use Rattle.record.proofs.read_all.Given as goal
 
 abbrev pub invariant-loop-turns : goal.invariant-loop-turns

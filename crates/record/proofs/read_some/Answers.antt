@@ -1,6 +1,5 @@
 -- `record::read_some` lends no byte past those lent to it, and holds less than a block. Assumes nothing.
 use mathlib.Core.Path.{sym}
-use lib.ListN.{length}
 use lib.Seq.{length-take-le}
 use borrow.Author.Rules.{rules}
 use Rattle.record.proofs.read_some.Goals as goal

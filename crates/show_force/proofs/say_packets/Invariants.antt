@@ -1,10 +1,7 @@
 -- `show_force::say_packets` ends, since each answer that does not wait moves on, and the place of what waits is no further than the end. Assumes nothing.
-use mathlib.Core.Path.{◌≡◌, sym, ◌∙◌}
-use Prim.Native.Nat.{◌<◌, ◌≤◌, ◌-◌}
-use native.Mathlib.Omega.{arith}
+use mathlib.Core.Path.{◌≡◌}
+use Prim.Native.Nat.{◌≤◌, ◌-◌}
 use lib.ListN.{length}
-use borrow.Author.Rules.{rules}
-use Rattle.force.proofs.Promises.{moves-on, stays-inside}
 use Rattle.show_force.proofs.say_packets.Given as goal
 
 abbrev pub invariant-loop-at : goal.invariant-loop-at

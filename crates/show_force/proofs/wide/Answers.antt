@@ -1,5 +1,4 @@
 -- `show_force::wide`: a number of 16 bits fits 32. Assumes nothing.
-use borrow.Author.Rules.{rules}
 use native.Mathlib.Omega.{arith}
 use lib.IntN.{ℤ, pos, negsuc}
 use mir.Syntax.{w16, w32}

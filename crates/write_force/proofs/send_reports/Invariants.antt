@@ -1,5 +1,5 @@
 -- `write_force::send_reports` lends no byte past those lent to it. The loop has sent the reports before `at`. Assumes nothing.
-use Rattle.std.proofs.Common.{◌≡◌, ◌-◌, ◌≤◌, length, rules}
+use Rattle.std.proofs.Common.{◌≡◌, ◌-◌, ◌≤◌, length}
 use Rattle.write_force.proofs.send_reports.Given as goal
 
 abbrev pub invariant-loop-at : goal.invariant-loop-at
