@@ -1,0 +1,65 @@
+-- `crane_follow::follow`: a run that begins following. The loop has read k records; what is left of the run is the whole run's answer. Assumes nothing.
+use borrow.Author.Rules.{rules}
+use borrow.Author.Tests.{not-true, not-false}
+use mathlib.Core.Path.{◌≡◌, refl, sym, ap, ap₂, ◌∙◌}
+use mathlib.Core.Bool.{Bool, true}
+use mathlib.Core.List.{List}
+use mathlib.Core.Logic.{⊎_elim}
+use Prim.Native.Nat.{ℕ, suc, ◌+◌, ◌-◌, ◌*◌, ◌/◌, ◌≤◌, ◌<◌}
+use native.Mathlib.Omega.{arith}
+use lib.IntN.{pos}
+use lib.ListN.{length, get_or}
+use Rattle.model.specs.Panel.{crane_records}
+use Rattle.model.specs.Table.{ids_differ}
+use Rattle.model.specs.Events as E
+use Rattle.model.specs.Events.{Event, classify}
+use Rattle.model.specs.Reader as R
+use Rattle.model.specs.Reader.{following, nothing}
+use Rattle.model.specs.Records.{event_at, events_from}
+use Rattle.common.specs.declared.Counts.{Counts}
+use Rattle.common.specs.Seen.{counts_of, counts_from}
+use Rattle.common.proofs.Back.{counts-seen}
+use Rattle.crane_panel.specs.declared.Setup.{Setup}
+use Rattle.crane_panel.specs.declared.Slot.{Slot}
+use Rattle.crane_panel.specs.Seen.{slot_of, table_of, panel_seen, blank, unused}
+use Rattle.crane_panel.proofs.Setups.{small}
+use Rattle.crane_acts.specs.declared.Act.{Act}
+use Rattle.crane_acts.specs.Seen.{act_of}
+use Rattle.crane_follow.specs.declared.Ended.{Ended}
+use Rattle.crane_follow.specs.Seen.{reader_of}
+use Rattle.common.specs.Runs.{onward, counted, FirstWithin, first_at}
+use Rattle.common.proofs.Firsts.{names, stays_within}
+use Rattle.common.proofs.Turns.{Pending, uncompared, compared, with_id, with_number, sofar, selected}
+use Rattle.common.proofs.Turns.{Place, asks, skips-type, skips-code, selects, shows, repeats, drops, spoils, stores}
+use Rattle.crane_follow.specs.Runs.{ended_from, lost_at}
+use Rattle.crane_follow.proofs.Ends.{kept_at, ends, loses}
+use Rattle.crane_follow.proofs.follow.Given as goal
+
+-- What the loop keeps: what is left of the run is the whole run's answer.
+pub record Kept
+    (setup : Setup)
+    (bytes : List ℕ)
+    (count : ℕ)
+    (start now : R.Reader)
+    (pending : List Slot)
+    (written : Bool)
+    (so : R.Counts)
+    (first k : ℕ)
+    : Type 0 where
+  pub inside : k ≤ count
+  pub below : now.current < setup.n
+  pub few : so.shown + so.types + so.codes ≤ k
+  pub pends : Pending slot_of blank unused crane_records setup.n written pending
+  pub left :
+      onward (panel_seen setup) start nothing (events_from count bytes 0)
+      ≡ onward (panel_seen setup) now so (events_from (count - k) bytes (8 * k))
+  pub slots : setup.n ≤ crane_records
+  pub there : FirstWithin (so.types + so.codes) first (length bytes)
+
+abbrev pub invariant-loop-k : goal.invariant-loop-k
+invariant-loop-k l =
+    let so = sofar l.frames l.types l.codes (first_at l.bytes (l.types + l.codes) l.first) in
+    Kept l.setup l.bytes l.count (reader_of l.initial.shown l.initial.pending l.initial.current following) (reader_of l.shown l.pending l.current following) l.pending l.written so l.first l.k
+
+abbrev pub decreases-loop-k : goal.decreases-loop-k
+decreases-loop-k l = l.count - l.k

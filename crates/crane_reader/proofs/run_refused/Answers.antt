@@ -1,0 +1,6 @@
+-- `crane_reader::run_refused`: the state as it came in, and zeros. Assumes nothing.
+use borrow.Author.Rules.{rules}
+use Rattle.crane_reader.proofs.run_refused.Goals as goal
+
+pub returns : goal.returns
+returns c = rw c.none.ensures

@@ -1,0 +1,10 @@
+-- `packets::finished`: the answer at the end of the walk. Assumes nothing.
+use Rattle.packets.specs.Walk.{walk_of}
+use Rattle.packets.proofs.Steps.{ended_as}
+use borrow.Author.Rules.{rules}
+use Rattle.packets.proofs.finished.Goals as goal
+
+pub returns : goal.returns
+returns c =
+    let s = c.args in
+    ended_as (walk_of s.w) s.x s.y s.pressure c.begun-open.result c.begun-open.ensures

@@ -1,0 +1,66 @@
+-- `packets::read_packets`: the contacts of a type A frame, in one walk over its records. Assumes nothing.
+use borrow.Author.Rules.{rules}
+use mathlib.Core.Path.{◌≡◌, refl, sym, ap, ap₂, ◌∙◌}
+use mathlib.Core.List.{List}
+use Prim.Native.Nat.{ℕ, ◌-◌, ◌*◌, ◌/◌, ◌<◌}
+use lib.IntN.{ℤ}
+use lib.ListN.{length}
+use mir.Syntax.{w32}
+use mir.Val.{SFits, to_z, of_z}
+use mir.ValLaws.{to_z-of_z}
+use Rattle.model.specs.Records.{signed_of, event_at}
+use Rattle.model.specs.Packets as P
+use Rattle.model.specs.Packets.{Packet, said}
+use Rattle.records.specs.Seen.{headed}
+use Rattle.records.proofs.Words.{words_event}
+use Rattle.packets.specs.declared.Said.{Said}
+use Rattle.packets.specs.Seen.{said_by, packet_in}
+use Rattle.packets.proofs.Turns.{Read, closes_none, closes_one, read-begins, read-passes, read_adds, read-counts, read-ends}
+use Rattle.packets.proofs.read_packets.Goals.{After-closes}
+use Rattle.packets.proofs.read_packets.Goals as goal
+
+abbrev bytes : After-closes → List ℕ
+bytes p = p.args.bytes.now
+
+inside : (p : After-closes) → p.loop-k.k < length (bytes p) / 8
+inside p = search rules
+
+is_said : (p : After-closes) → (said_by p.said_of-said.result (signed_of p.word_at-value.result)) ≡ said (event_at (bytes p) (8 * p.loop-k.k))
+is_said p =
+    p.said_of-said.ensures (signed_of p.word_at-value.result)
+    ∙ ap said
+    (ap₂ (λ h v. headed h (signed_of v)) p.word_at.ensures p.word_at-value.ensures
+    ∙ words_event (bytes p) (8 * p.loop-k.k) p.shared_slice_known-1.given)
+
+-- A signed number that is stored is read back.
+own : {u : ℤ} (z : ℤ) → SFits w32 z → z ≡ u → to_z w32 (of_z w32 z) ≡ u
+own z f e = to_z-of_z w32 z f ∙ e
+
+-- ---- the needs
+
+pub loop-k-init : goal.loop-k-init
+loop-k-init c = read-begins c.args.bytes.now _ refl
+
+pub loop-k-preserved-then-at-lt-MOST : goal.loop-k-preserved-then-at-lt-MOST
+loop-k-preserved-then-at-lt-MOST c =
+    let p = c in
+    let z = closes_one (packet_in p.loop-k.w) p.said_of-said.result (signed_of p.word_at-value.result) (sym p.closes.ensures ∙ c.if-closes.true) in
+    read_adds p.loop-k.invariant (inside (goal.at.loop-k-preserved-then-at-lt-MOST p).After-closes) (said_by p.said_of-said.result (signed_of p.word_at-value.result)) (is_said (goal.at.loop-k-preserved-then-at-lt-MOST p).After-closes) p.heard-w.result p.heard-w.ensures z _ _ _
+    (own _ (search rules) c.value_of.ensures)
+    (own _ (search rules) c.value_of-then-at-lt-MOST.ensures)
+    (own _ (search rules) c.value_of-then-at-lt-MOST-2.ensures)
+
+pub loop-k-preserved-else-at-lt-MOST : goal.loop-k-preserved-else-at-lt-MOST
+loop-k-preserved-else-at-lt-MOST c =
+    let p = c in
+    let z = closes_one (packet_in p.loop-k.w) p.said_of-said.result (signed_of p.word_at-value.result) (sym p.closes.ensures ∙ c.if-closes.true) in
+    read-counts p.loop-k.invariant (inside (goal.at.loop-k-preserved-else-at-lt-MOST p).After-closes) (said_by p.said_of-said.result (signed_of p.word_at-value.result)) (is_said (goal.at.loop-k-preserved-else-at-lt-MOST p).After-closes) p.heard-w.result p.heard-w.ensures z c.if-at-lt-MOST.false
+
+pub loop-k-preserved : goal.loop-k-preserved
+loop-k-preserved c =
+    let p = c in
+    let z = closes_none (packet_in p.loop-k.w) p.said_of-said.result (signed_of p.word_at-value.result) (sym p.closes.ensures ∙ c.if-closes.false) in
+    read-passes p.loop-k.invariant (inside (goal.at.loop-k-preserved p).After-closes) (said_by p.said_of-said.result (signed_of p.word_at-value.result)) (is_said (goal.at.loop-k-preserved p).After-closes) p.heard-w.result p.heard-w.ensures z
+
+pub returns : goal.returns
+returns c = c.finished.ensures ∙ read-ends c.loop-k.invariant (search rules)

@@ -1,0 +1,8 @@
+-- `packets::whole`: whether no number of a packet lacks. Assumes nothing.
+use Rattle.packets.proofs.Steps.{all_told}
+use Rattle.packets.proofs.whole.Goals as goal
+
+pub returns : goal.returns
+returns c =
+    let a = c.args in
+    all_told a.x.told a.y.told a.pressure.told _ _ _
