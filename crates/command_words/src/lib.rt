@@ -1,5 +1,6 @@
 // The pod's commands in words, 02's K13: a line for each, as show_commands prints it and write_commands takes it. It promises nothing but that it is safe and ends.
 #![tactic(auto)]
+
 use commands::{
     AbsoluteMode, Answer, AskClock, ButtonAction, Command, Interrogate, LoadPosition, RelativeMode,
     Reset, Scale, SetClock, Threshold,

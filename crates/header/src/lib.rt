@@ -1,12 +1,14 @@
 // The setup in front of a program's input: n, largest x, y, pressure, major and minor, each 32 bits and little-endian; and what was wrong with them, in words.
 #![tactic(auto)]
+
 use common::Verdict;
 use panel::{MOST_POSITION, MOST_PRESSURE, MOST_SIZE, RECORDS};
+use std::io::{Error, Stdin};
 use stream::{Out, warn_part, warn_range};
 
 pub const BYTES: usize = 24;
 
-// The six numbers, the bytes that they came in and how many there were, and whether a read failed before there were all.
+// The six numbers, the bytes that they came in and how many there were, and why a read failed before there were all.
 #[derive(Clone, Copy)]
 pub struct Header {
     pub n: u32,
@@ -17,12 +19,12 @@ pub struct Header {
     pub minor: u32,
     pub bytes: [u8; BYTES],
     pub count: usize,
-    pub failed: bool,
+    pub failed: Option<Error>,
 }
 
-pub fn read() -> Header {
+pub fn read(input: Stdin) -> Header {
     let mut b = [0u8; BYTES];
-    let f = stream::fill(&mut b);
+    let f = stream::fill(input, &mut b);
     Header {
         n: records::join32(b[0], b[1], b[2], b[3]),
         x: records::join32(b[4], b[5], b[6], b[7]),

@@ -1,6 +1,7 @@
 // Makes a recording: standard input is a setup and event records, standard output that setup and blocks of 512 bytes, each with its number and its check (document 02's K2).
 // 62 records go to each block but the last. A block is written when it is full, and the last one when the input has ended. Input that was lost is recorded as SYN_DROPPED.
 #![tactic(auto)]
+
 ghost use Rattle.std.specs.Prelude.{◌≡◌, ◌+◌, ◌<◌, ◌≤◌, length};
 ghost use Rattle.model.specs.Recorder.{full_run};
 ghost use Rattle.record.specs.Room.{room};
@@ -10,6 +11,7 @@ use header::Header;
 use panel::Setup;
 use recorder::{BLOCK, FULL};
 use records::LENGTH;
+use std::io::Error;
 use stream::Out;
 
 // The output; the number of the block that comes next, 0 after the last number; whether a block was refused, after which none is written.
@@ -34,8 +36,7 @@ fn longer(page: &[u8], out: Out) -> Out {
     let held = stream::within(out.held, page);
     Out {
         held: held + BLOCK,
-        broken: out.broken,
-        status: out.status,
+        ..out
     }
 }
 
@@ -157,12 +158,12 @@ fn warn_lost(r: Recording) -> Recording {
 }
 
 // The read failed. Nobody knows what was lost with the input, so who replays it must not go on with the old table. A record that was cut is lost too.
-fn lose(page: &mut [u8], r: Recording, buf: &mut [u8], held: usize) -> Recording
+fn lose(page: &mut [u8], r: Recording, buf: &mut [u8], held: usize, why: Error) -> Recording
     requires { (held < full_run) × (length buf.old ≡ room) }
 {
     let out = r.out;
     let told = Recording {
-        out: stream::read_failed(out, b"record"),
+        out: stream::read_failed(out, b"record", why),
         number: r.number,
         over: r.over,
     };
@@ -232,9 +233,10 @@ fn read_some(page: &mut [u8], buf: &mut [u8], turn: Turn) -> Turn
 {
     let r = turn.recording;
     let held = turn.held;
-    let f = stream::some(&mut buf[held..]);
-    if f.failed {
-        return ended(lose(page, r, buf, held));
+    let out = r.out;
+    let f = stream::some(out.streams.input, &mut buf[held..]);
+    if let Some(why) = f.failed {
+        return ended(lose(page, r, buf, held, why));
     }
     if f.n == 0 {
         return ended(end(page, r, &buf[..held]));
@@ -302,17 +304,17 @@ fn after_setup(page: &mut [u8], out: Out, h: Header) -> Out {
 }
 
 fn answer(page: &mut [u8], out: Out) -> Out {
-    let h = header::read();
-    if h.failed {
-        let a = stream::read_failed(out, b"record");
+    let h = header::read(out.streams.input);
+    if let Some(why) = h.failed {
+        let a = stream::read_failed(out, b"record", why);
         return after_setup(page, a, h);
     }
     after_setup(page, out, h)
 }
 
-fn main() {
+fn main(rt: HostRuntime) {
     let mut page = io::large_buffer();
-    let begun = stream::begin(b"record");
+    let begun = stream::begin(&rt, b"record");
     if begun.status != stream::ACCEPTED {
         stream::finish(&page, begun, b"record");
         return;

@@ -1,10 +1,12 @@
 // Shows commands to the pod: standard input is command bytes of any length, standard output a line for each; at the end of input `unfinished` where it is inside one, or `input lost` where a read failed.
 #![tactic(auto)]
+
 ghost use Rattle.std.specs.Prelude.{◌≡◌, ◌≤◌, length};
 ghost use Rattle.model.specs.Commands.{waits as waits_for};
 ghost use Rattle.commands.specs.Seen.{answer_seen};
 
 use commands::Answer;
+use std::io::Error;
 use stream::Out;
 
 // The output's status after an answer: a refused command and one that will never be whole are refusals, the others are answers.
@@ -71,9 +73,9 @@ struct Turn {
 }
 
 // The read failed, or the input ended: inside a command that is said.
-fn end(page: &mut [u8], out: Out, held: usize, failed: bool) -> Out {
-    if failed {
-        let a = stream::read_failed(out, b"show_commands");
+fn end(page: &mut [u8], out: Out, held: usize, failed: Option<Error>) -> Out {
+    if let Some(why) = failed {
+        let a = stream::read_failed(out, b"show_commands", why);
         return stream::say(page, a, b"input lost\n");
     }
     if held == 0 {
@@ -99,7 +101,7 @@ fn take(page: &mut [u8], buf: &mut [u8], out: Out, total: usize) -> Turn {
 fn read_some(page: &mut [u8], buf: &mut [u8], turn: Turn) -> Turn {
     let out = turn.out;
     let from = stream::within(turn.held, buf);
-    let f = stream::some(&mut buf[from..]);
+    let f = stream::some(out.streams.input, &mut buf[from..]);
     if f.n == 0 {
         return Turn {
             out: end(page, out, from, f.failed),
@@ -132,9 +134,9 @@ fn read_all(page: &mut [u8], buf: &mut [u8], begun: Out) -> Out {
     turn.out
 }
 
-fn main() {
+fn main(rt: HostRuntime) {
     let mut page = io::large_buffer();
-    let begun = stream::begin(b"show_commands");
+    let begun = stream::begin(&rt, b"show_commands");
     if begun.status != stream::ACCEPTED {
         stream::finish(&page, begun, b"show_commands");
         return;

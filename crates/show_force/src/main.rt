@@ -1,10 +1,12 @@
 // Shows a force stick's packets: standard input is bytes of any length, standard output a line for each packet; at the end of input `unfinished` where it is inside one, or `input lost` where a read failed.
 #![tactic(auto)]
+
 ghost use Rattle.std.specs.Prelude.{◌≡◌, ◌≤◌, length};
 ghost use Rattle.model.specs.Force.{waits as waits_for};
 ghost use Rattle.force.specs.Seen.{answer_seen};
 
 use force::{Answer, Report};
+use std::io::Error;
 use stream::Out;
 
 fn wide(v: i16) -> i32 {
@@ -109,9 +111,9 @@ struct Turn {
 }
 
 // The read failed, or the input ended: inside a packet that is said.
-fn end(page: &mut [u8], out: Out, held: usize, failed: bool) -> Out {
-    if failed {
-        let a = stream::read_failed(out, b"show_force");
+fn end(page: &mut [u8], out: Out, held: usize, failed: Option<Error>) -> Out {
+    if let Some(why) = failed {
+        let a = stream::read_failed(out, b"show_force", why);
         return stream::say(page, a, b"input lost\n");
     }
     if held == 0 {
@@ -137,7 +139,7 @@ fn take(page: &mut [u8], buf: &mut [u8], out: Out, total: usize) -> Turn {
 fn read_some(page: &mut [u8], buf: &mut [u8], turn: Turn) -> Turn {
     let out = turn.out;
     let from = stream::within(turn.held, buf);
-    let f = stream::some(&mut buf[from..]);
+    let f = stream::some(out.streams.input, &mut buf[from..]);
     if f.n == 0 {
         return Turn {
             out: end(page, out, from, f.failed),
@@ -170,9 +172,9 @@ fn read_all(page: &mut [u8], buf: &mut [u8], begun: Out) -> Out {
     turn.out
 }
 
-fn main() {
+fn main(rt: HostRuntime) {
     let mut page = io::large_buffer();
-    let begun = stream::begin(b"show_force");
+    let begun = stream::begin(&rt, b"show_force");
     if begun.status != stream::ACCEPTED {
         stream::finish(&page, begun, b"show_force");
         return;

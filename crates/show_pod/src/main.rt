@@ -1,6 +1,8 @@
 // Shows pod reports: standard input is pod bytes of any length, standard output a line for each answer but "more"; at the end of input `more` where a report is unfinished, or `input lost` where a read failed.
 #![tactic(auto)]
+
 use pod::PodState;
+use std::io::Error;
 use stream::Out;
 
 // The pod and the output after a read, and whether to read on.
@@ -12,9 +14,9 @@ struct Turn {
 }
 
 // The read failed, or the input ended: inside a report that is said.
-fn end(page: &mut [u8], out: Out, state: PodState, failed: bool) -> Turn {
-    if failed {
-        let a = stream::read_failed(out, b"show_pod");
+fn end(page: &mut [u8], out: Out, state: PodState, failed: Option<Error>) -> Turn {
+    if let Some(why) = failed {
+        let a = stream::read_failed(out, b"show_pod", why);
         return Turn {
             state,
             out: stream::say(page, a, b"input lost\n"),
@@ -38,7 +40,7 @@ fn end(page: &mut [u8], out: Out, state: PodState, failed: bool) -> Turn {
 // What came is answered before more is waited for.
 fn read_some(page: &mut [u8], out: Out, state: PodState) -> Turn {
     let mut buf = io::large_buffer();
-    let f = stream::some(&mut buf);
+    let f = stream::some(out.streams.input, &mut buf);
     let n = f.n;
     if n == 0 {
         return end(page, out, state, f.failed);
@@ -76,9 +78,9 @@ fn read_all(page: &mut [u8], begun: Out) -> Out {
     turn.out
 }
 
-fn main() {
+fn main(rt: HostRuntime) {
     let mut page = io::large_buffer();
-    let begun = stream::begin(b"show_pod");
+    let begun = stream::begin(&rt, b"show_pod");
     if begun.status != stream::ACCEPTED {
         stream::finish(&page, begun, b"show_pod");
         return;

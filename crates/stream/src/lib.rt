@@ -1,64 +1,83 @@
 // Standard streams for the programs: input into a buffer, output collected on a page, words on standard error, and the status that a program ends with.
 // docs/PROGRAMS.md has what a user sees of it.
 #![tactic(auto)]
+
 mod status;
 
-ghost use Rattle.std.specs.Prelude.{false, ◌≡◌, ◌<◌, length};
+ghost use Rattle.std.specs.Prelude.{false, None, ◌≡◌, ◌<◌, length};
 ghost use Rattle.io.specs.Counts.{IsPrefixLen};
 
-use libc::{STDERR_FILENO, STDIN_FILENO, STDOUT_FILENO};
 pub use status::{Begun, begin, begin_with, finish};
+use std::io::{Cursor, Error, Read, Stderr, Stdin, Stdout, Write};
+use std::rt::Env;
+
+#[derive(Clone, Copy)]
+pub struct Streams {
+    pub input: Stdin,
+    pub output: Stdout,
+    pub errors: Stderr,
+}
+
+// What a program's main hands on: the arguments and the three standard streams.
+pub trait System: Env {
+    fn streams(&self) -> Streams;
+}
+
+impl System for HostRuntime {
+    fn streams(&self) -> Streams {
+        Streams {
+            input: self.stdin(),
+            output: self.stdout(),
+            errors: self.stderr(),
+        }
+    }
+}
 
 // How many bytes a read put at the start of the buffer, and why it stopped if there are no more.
 #[derive(Clone, Copy)]
 pub struct Filled {
     pub n: usize,
     pub ended: bool,
-    pub failed: bool,
+    pub failed: Option<Error>,
 }
 
 // Fills a buffer until it is full, the input ends or a read fails. io::read_full does not tell the last two apart, and a failed read is a loss.
-pub fn fill(buf: &mut [u8]) -> Filled
+pub fn fill(input: Stdin, buf: &mut [u8]) -> Filled
     ensures prefix_len { IsPrefixLen result.n buf.new }
-    ensures n_value { result.ended ≡ false → result.failed ≡ false → result.n ≡ length buf.new }
+    ensures n_value { result.ended ≡ false → result.failed ≡ None → result.n ≡ length buf.new }
 {
     let mut done: usize = 0;
     while done < buf.len() {
-        let got = libc::read(STDIN_FILENO, &mut buf[done..]);
-        if got < 0 {
-            return Filled {
-                n: done,
-                ended: false,
-                failed: true,
-            };
+        let more = some(input, &mut buf[done..]);
+        if more.n == 0 {
+            return Filled { n: done, ..more };
         }
-        let more = io::count(got, &buf[done..]);
-        if more == 0 {
-            return Filled {
-                n: done,
-                ended: true,
-                failed: false,
-            };
-        }
-        done += more;
+        done += more.n;
     }
     Filled {
         n: done,
         ended: false,
-        failed: false,
+        failed: None,
     }
 }
 
 // One read: what is there, so that it can be answered before more is waited for. Nothing is there where the input ended or the read failed.
-pub fn some(buf: &mut [u8]) -> Filled
-    ensures { IsPrefixLen result.n buf.new }
+pub fn some(input: Stdin, buf: &mut [u8]) -> Filled
+    ensures prefix_len { IsPrefixLen result.n buf.new }
+    ensures some { result.ended ≡ false → result.failed ≡ None → 0 < result.n }
 {
-    let got = libc::read(STDIN_FILENO, buf);
-    let n = io::count(got, buf);
-    Filled {
-        n,
-        ended: got == 0,
-        failed: got < 0,
+    let mut from = input;
+    match from.read(buf) {
+        Err(why) => Filled {
+            n: 0,
+            ended: false,
+            failed: Some(why),
+        },
+        Ok(n) => Filled {
+            n,
+            ended: n == 0,
+            failed: None,
+        },
     }
 }
 
@@ -69,23 +88,23 @@ pub const REFUSED: u8 = 1;
 
 pub const FAILED: u8 = 2;
 
-// How many bytes at the start of a page are not written yet, whether a write failed, after which no other is made, and the status so far.
+// How many bytes at the start of a page are not written yet; whether a write failed, after which no other is made, and the system's number for why; the status so far, and the descriptor that it goes to, or -1.
+// An io::Error is too long for what is passed with each byte.
 #[derive(Clone, Copy)]
 pub struct Out {
     pub held: usize,
     pub broken: bool,
+    pub code: i32,
     pub status: u8,
+    pub status_fd: i32,
+    pub streams: Streams,
 }
 
 impl Out {
     // Something was refused, or a stream failed.
     pub fn marked(self, status: u8) -> Out {
         if self.status < status {
-            return Out {
-                held: self.held,
-                broken: self.broken,
-                status,
-            };
+            return Out { status, ..self };
         }
         self
     }
@@ -96,6 +115,7 @@ impl Out {
             held: 0,
             broken: true,
             status: FAILED,
+            ..self
         }
     }
 }
@@ -132,14 +152,19 @@ pub fn flush(page: &[u8], out: Out) -> Out {
         return out;
     }
     let n = within(out.held, page);
-    if io::write_all(STDOUT_FILENO, &page[..n]) {
-        return Out {
-            held: 0,
-            broken: false,
-            status: out.status,
-        };
+    let output = out.streams.output;
+    match output.write_all(&page[..n]) {
+        Ok(()) => Out { held: 0, ..out },
+        Err(why) => Out {
+            code: code_of(why),
+            ..out.spoiled()
+        },
     }
-    out.spoiled()
+}
+
+// The system's number for an error: 0, its number for none, where the error is not the system's.
+fn code_of(why: Error) -> i32 {
+    why.raw_os_error().unwrap_or(0)
 }
 
 // A full page is written before the next byte.
@@ -157,8 +182,7 @@ fn put(page: &mut [u8], out: Out, b: u8) -> Out {
         page[held] = b;
         return Out {
             held: held + 1,
-            broken: o.broken,
-            status: o.status,
+            ..o
         };
     }
     // A page of no bytes holds none.
@@ -206,17 +230,17 @@ pub fn say_refused(page: &mut [u8], out: Out, verdict: common::Verdict) -> Out {
 
 // Words on standard error, at once. That they could not be said is a failed stream.
 pub fn warn(out: Out, text: &[u8]) -> Out {
-    if io::write_all(STDERR_FILENO, text) {
-        return out;
+    let errors = out.streams.errors;
+    match errors.write_all(text) {
+        Ok(()) => out,
+        Err(_) => out.marked(FAILED),
     }
-    out.marked(FAILED)
 }
 
 pub fn warn_number(out: Out, n: u64) -> Out {
-    if io::print_decimal(STDERR_FILENO, n) {
-        return out;
-    }
-    out.marked(FAILED)
+    let mut digits = [0u8; 20];
+    let k = io::decimal(n, &mut digits);
+    warn(out, &digits[..k])
 }
 
 // A number with the words around it.
@@ -244,9 +268,32 @@ pub fn warn_refused(out: Out, verdict: common::Verdict) -> Out {
     warn(p, b"\n")
 }
 
-// A failed read, said with the system's words for it: to be called before any other call can fail.
-pub fn read_failed(out: Out, name: &[u8]) -> Out {
-    let o = warn(out.marked(FAILED), name);
-    os::fail(b": a read from standard input failed");
-    o
+// Where the system's words end: std puts its number for the error behind them.
+fn words_end(text: &[u8]) -> usize
+    ensures { IsPrefixLen result text.now }
+{
+    for i in 0..text.len() {
+        if text[i..].starts_with(b" (os error ") {
+            return i;
+        }
+    }
+    text.len()
+}
+
+// An error in the system's words, to the end of the line. A buffer of 128 bytes holds all that it has for an error.
+fn warn_why(out: Out, why: Error) -> Out {
+    let mut to = Cursor::new([0u8; 128]);
+    let _ = write!(to, "{why}");
+    let text = to.into_inner();
+    let n = words_end(&text);
+    let a = warn(out, b": ");
+    let b = warn(a, &text[..n]);
+    warn(b, b"\n")
+}
+
+// A failed read, said with the system's words for it.
+pub fn read_failed(out: Out, name: &[u8], why: Error) -> Out {
+    let a = warn(out.marked(FAILED), name);
+    let b = warn(a, b": a read from standard input failed");
+    warn_why(b, why)
 }

@@ -1,7 +1,11 @@
-// How a program begins and ends: its arguments, and the status that it tells. The language has no exit status, so a digit goes to the descriptor that the first argument names.
+// How a program begins and ends: its arguments, and the status that it tells. The process itself ends with 0, and the status is a digit that goes to the descriptor that the first argument names.
 ghost use Rattle.std.specs.Prelude.{◌≤◌};
+ghost use Rattle.io.specs.Counts.{IsPrefixLen};
 
-use crate::{FAILED, Out};
+use crate::{FAILED, Out, System};
+use std::env::FillError;
+use std::io::Error;
+use std::rt::Env;
 
 // The argument is these bytes and one digit from 3 to 9: a standard stream cannot be named.
 const BEFORE: usize = 12;
@@ -42,27 +46,37 @@ fn descriptor_of(text: &[u8]) -> i32 {
     (digit - b'0') as i32
 }
 
+// How many bytes argument i has, at the start of the buffer: none where it is missing or longer than the buffer.
+fn argument(rt: &impl Env, i: usize, text: &mut [u8]) -> usize
+    ensures { IsPrefixLen result text.new }
+{
+    match rt.arg(i, text) {
+        Ok(n) => n,
+        Err(_) => 0,
+    }
+}
+
 // The descriptor that argument i names, or -1.
-fn descriptor(i: usize) -> i32 {
+fn descriptor(rt: &impl Env, i: usize) -> i32 {
     let mut text = io::buffer();
-    let n = os::arg(i, &mut text);
+    let n = argument(rt, i, &mut text);
     descriptor_of(&text[..n])
 }
 
 // Where the arguments begin that are the program's own: the descriptor stands before them.
-fn own() -> usize
+fn own(out: Out) -> usize
     ensures { result ≤ 2 }
 {
-    if descriptor(1) < 0 {
+    if out.status_fd < 0 {
         return 1;
     }
     2
 }
 
 // Whether argument i is the word. One that is missing reads as an empty one, so an empty word would be there always.
-fn is_given(i: usize, word: &[u8]) -> bool {
+fn is_given(rt: &impl Env, i: usize, word: &[u8]) -> bool {
     let mut text = io::buffer();
-    let n = os::arg(i, &mut text);
+    let n = argument(rt, i, &mut text);
     if n != word.len() {
         return false;
     }
@@ -80,9 +94,9 @@ fn warn_taken(out: Out, name: &[u8], word: &[u8]) -> Out {
     crate::warn(c, word)
 }
 
-fn refuse_argument(out: Out, name: &[u8], word: &[u8], i: usize) -> Out {
+fn refuse_argument(rt: &impl Env, out: Out, name: &[u8], word: &[u8], i: usize) -> Out {
     let mut text = io::buffer();
-    let n = os::arg(i, &mut text);
+    let n = argument(rt, i, &mut text);
     let a = warn_taken(out.marked(FAILED), name, word);
     let b = crate::warn(a, b" is taken, and '");
     let c = crate::warn(b, &text[..n]);
@@ -92,21 +106,29 @@ fn refuse_argument(out: Out, name: &[u8], word: &[u8], i: usize) -> Out {
 }
 
 // The output where argument i, if it is there, is one too many.
-fn refusing(name: &[u8], word: &[u8], i: usize) -> Out {
-    let out = Out {
+fn refusing(rt: &impl Env, out: Out, name: &[u8], word: &[u8], i: usize) -> Out {
+    let mut text = io::buffer();
+    match rt.arg(i, &mut text) {
+        Err(FillError::NotPresent) => out,
+        _ => refuse_argument(rt, out, name, word, i),
+    }
+}
+
+fn unsaid(rt: &impl System) -> Out {
+    Out {
         held: 0,
         broken: false,
+        code: 0,
         status: crate::ACCEPTED,
-    };
-    if os::arg_count() <= i {
-        return out;
+        status_fd: descriptor(rt, 1),
+        streams: rt.streams(),
     }
-    refuse_argument(out, name, word, i)
 }
 
 // A program's output before it says anything. Where its status is FAILED it was given an argument that it does not take, and is to do nothing but end.
-pub fn begin(name: &[u8]) -> Out {
-    refusing(name, b"", own())
+pub fn begin(rt: &impl System, name: &[u8]) -> Out {
+    let out = unsaid(rt);
+    refusing(rt, out, name, b"", own(out))
 }
 
 // The same with whether the word was given.
@@ -117,41 +139,42 @@ pub struct Begun {
 }
 
 // For a program that takes one word, which stands behind the descriptor's.
-pub fn begin_with(name: &[u8], word: &[u8]) -> Begun {
-    let i = own();
-    if is_given(i, word) {
+pub fn begin_with(rt: &impl System, name: &[u8], word: &[u8]) -> Begun {
+    let out = unsaid(rt);
+    let i = own(out);
+    if is_given(rt, i, word) {
         return Begun {
-            out: refusing(name, word, i + 1),
+            out: refusing(rt, out, name, word, i + 1),
             given: true,
         };
     }
     Begun {
-        out: refusing(name, word, i),
+        out: refusing(rt, out, name, word, i),
         given: false,
     }
 }
 
-fn tell(status: u8) {
-    let fd = descriptor(1);
-    if fd < 0 {
+fn tell(out: Out) {
+    if out.status_fd < 0 {
         return;
     }
     // Nobody is left to be told that this write failed: who asked for the digit misses it.
-    if status == crate::ACCEPTED {
-        io::write_all(fd, b"0");
-    } else if status == crate::REFUSED {
-        io::write_all(fd, b"1");
+    if out.status == crate::ACCEPTED {
+        io::write_all(out.status_fd, b"0");
+    } else if out.status == crate::REFUSED {
+        io::write_all(out.status_fd, b"1");
     } else {
-        io::write_all(fd, b"2");
+        io::write_all(out.status_fd, b"2");
     }
 }
 
-// Writes what is held, says a failed write, and tells the status. errno is still the failed write's, since nothing was called after it.
+// Writes what is held, says a failed write, and tells the status.
 pub fn finish(page: &[u8], out: Out, name: &[u8]) {
     let o = crate::flush(page, out);
     if o.broken {
-        crate::warn(o, name);
-        os::fail(b": a write to standard output failed");
+        let a = crate::warn(o, name);
+        let b = crate::warn(a, b": a write to standard output failed");
+        crate::warn_why(b, Error::from_raw_os_error(o.code));
     }
-    tell(o.status);
+    tell(o);
 }

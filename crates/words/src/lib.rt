@@ -1,5 +1,6 @@
 // Pod reports, tables and numbers in words, on a page of standard output: what the programs have in common. It promises nothing about a stream but that saying ends.
 #![tactic(auto)]
+
 ghost use Rattle.std.specs.Prelude.{◌≡◌};
 ghost use Rattle.pod.specs.Seen.{state_after};
 

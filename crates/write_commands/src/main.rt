@@ -1,9 +1,11 @@
 // Writes commands to the pod: standard input is lines as show_commands prints them for commands, standard output their bytes. A line that is refused or is no command is said on standard error, and the next goes on.
 #![tactic(auto)]
+
 use command_words::Line;
 use commands::Command;
 use common::Verdict;
 use pod::PodState;
+use std::io::Error;
 use stream::Out;
 
 const NEWLINE: u8 = 10;
@@ -181,12 +183,12 @@ fn take_all(page: &mut [u8], begun: Turn, bytes: &[u8], line: &mut [u8]) -> Turn
 }
 
 // The read failed, or the input ended: a last line may lack its end. One that a failed read cut off is not sent: nobody knows what it was.
-fn end(page: &mut [u8], t: Turn, line: &[u8], failed: bool) -> Out {
+fn end(page: &mut [u8], t: Turn, line: &[u8], failed: Option<Error>) -> Out {
     let w = t.writing;
     let h = t.held;
-    if failed {
+    if let Some(why) = failed {
         let out = w.out;
-        let a = stream::read_failed(out, b"write_commands");
+        let a = stream::read_failed(out, b"write_commands", why);
         return stream::warn(
             a,
             b"write_commands: input was lost, and no command can say so\n",
@@ -242,7 +244,9 @@ struct Read {
 }
 
 fn read_some(page: &mut [u8], t: Turn, bytes: &mut [u8], line: &mut [u8]) -> Read {
-    let f = stream::some(bytes);
+    let w = t.writing;
+    let out = w.out;
+    let f = stream::some(out.streams.input, bytes);
     let n = f.n;
     if n == 0 {
         return Read {
@@ -285,9 +289,9 @@ fn read_all(page: &mut [u8], begun: Out, bytes: &mut [u8], line: &mut [u8]) -> O
     r.out
 }
 
-fn main() {
+fn main(rt: HostRuntime) {
     let mut page = io::large_buffer();
-    let begun = stream::begin(b"write_commands");
+    let begun = stream::begin(&rt, b"write_commands");
     if begun.status != stream::ACCEPTED {
         stream::finish(&page, begun, b"write_commands");
         return;

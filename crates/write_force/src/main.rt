@@ -1,10 +1,12 @@
 // Writes a force stick's packets: standard input is reports of 9 bytes, little-endian, x and y (16 bits, signed), throttle, buttons (16 bits), hat and rudder (signed); standard output is a packet for each.
 // A refusal is a line on standard error, and the next report goes on.
 #![tactic(auto)]
+
 ghost use Rattle.std.specs.Prelude.{◌≡◌, length};
 
 use common::Verdict;
 use force::Report;
+use std::io::Error;
 use stream::Out;
 
 // The bytes of a report.
@@ -115,10 +117,10 @@ struct Turn {
 }
 
 // The read failed, or the input ended: inside a report that is said.
-fn end(s: Sending, held: usize, failed: bool) -> Out {
+fn end(s: Sending, held: usize, failed: Option<Error>) -> Out {
     let out = s.out;
-    if failed {
-        let a = stream::read_failed(out, b"write_force");
+    if let Some(why) = failed {
+        let a = stream::read_failed(out, b"write_force", why);
         return stream::warn(
             a,
             b"write_force: input was lost, and no packet can say so\n",
@@ -130,7 +132,7 @@ fn end(s: Sending, held: usize, failed: bool) -> Out {
     stream::warn_part(out.marked(stream::REFUSED), b"report ", s.report, b" cut\n")
 }
 
-fn ended(s: Sending, held: usize, failed: bool) -> Turn {
+fn ended(s: Sending, held: usize, failed: Option<Error>) -> Turn {
     let sending = Sending {
         out: end(s, held, failed),
         report: s.report,
@@ -169,8 +171,9 @@ fn take(page: &mut [u8], s: Sending, buf: &mut [u8], total: usize) -> Turn {
 
 fn read_some(page: &mut [u8], buf: &mut [u8], turn: Turn) -> Turn {
     let s = turn.sending;
+    let out = s.out;
     let from = stream::within(turn.held, buf);
-    let f = stream::some(&mut buf[from..]);
+    let f = stream::some(out.streams.input, &mut buf[from..]);
     if f.n == 0 {
         return ended(s, from, f.failed);
     }
@@ -206,9 +209,9 @@ fn read_all(page: &mut [u8], buf: &mut [u8], begun: Out) -> Out {
     last.out
 }
 
-fn main() {
+fn main(rt: HostRuntime) {
     let mut page = io::large_buffer();
-    let begun = stream::begin(b"write_force");
+    let begun = stream::begin(&rt, b"write_force");
     if begun.status != stream::ACCEPTED {
         stream::finish(&page, begun, b"write_force");
         return;

@@ -1,0 +1,53 @@
+-- `anonymous::olds_of` gathers a table's contacts. The loop has gone through s records. Assumes nothing.
+use borrow.Author.Rules.{rules}
+use mathlib.Core.Path.{◌≡◌, ap, ◌∙◌}
+use mathlib.Core.Bool.{not}
+use mathlib.Core.List.{List}
+use Prim.Native.Nat.{◌-◌, ◌<◌}
+use lib.ListN.{length, get_or}
+use mir.Syntax.{w32}
+use mir.Val.{SFits}
+use mir.ValLaws.{to_z-of_z}
+use Rattle.model.specs.Panel.{records}
+use Rattle.model.specs.Numbers.{eq_z, minus_one}
+use Rattle.model.specs.Table.{live}
+use Rattle.panel.specs.declared.Slot.{Slot}
+use Rattle.panel.specs.Seen.{blank}
+use Rattle.panel.proofs.Tables.{unmapped}
+use Rattle.anonymous.proofs.Gathered.{Gathered, gathers, gathers_none, gathers_one, gathered_all}
+use Rattle.anonymous.proofs.olds_of.Goals.{After-same-lives}
+use Rattle.anonymous.proofs.olds_of.Goals as goal
+
+abbrev table : After-same-lives → List Slot
+table p = p.args.t
+
+full : (p : After-same-lives) → length (table p) ≡ records
+full p = search (rules, unmapped)
+
+inside : (p : After-same-lives) → p.loop-s.s < records
+inside p = search rules
+
+lives : (p : After-same-lives) → not p.same-lives.result ≡ live (get_or (table p) p.loop-s.s blank).id.0
+lives p =
+    let w = (get_or (table p) p.loop-s.s blank).id.0 in
+    let f : SFits w32 w = search rules in
+    ap not (p.same-lives.ensures ∙ ap (λ z. eq_z z minus_one) (to_z-of_z w32 w f))
+
+-- ---- the needs
+
+pub loop-s-init : goal.loop-s-init
+loop-s-init c = gathers c.args.t
+
+pub loop-s-preserved-then-lives : goal.loop-s-preserved-then-lives
+loop-s-preserved-then-lives c =
+    let p = c in
+    let near = p.requires p.loop-s.s in
+    gathers_one p.loop-s.invariant (full (goal.at.loop-s-preserved-then-lives p).After-same-lives) (inside (goal.at.loop-s-preserved-then-lives p).After-same-lives) (not p.same-lives.result) (lives (goal.at.loop-s-preserved-then-lives p).After-same-lives) (ap not c.if-lives.true) near.0 near.1
+
+pub loop-s-preserved : goal.loop-s-preserved
+loop-s-preserved c =
+    let p = c in
+    gathers_none p.loop-s.invariant (full (goal.at.loop-s-preserved p).After-same-lives) (inside (goal.at.loop-s-preserved p).After-same-lives) (not p.same-lives.result) (lives (goal.at.loop-s-preserved p).After-same-lives) (ap not c.if-lives.false)
+
+pub returns : goal.returns
+returns c = gathered_all c.loop-s.invariant (search (rules, unmapped)) c.loop-s-test.false

@@ -1,0 +1,19 @@
+-- `lent::table_at`: as many slots are read as were passed; the measure is what is left of them. Assumes nothing.
+use mathlib.Core.Path.{◌≡◌, sym, ap, ap₂, ◌∙◌}
+use mathlib.Core.List.{◌∷◌, [], ◌++◌}
+use Prim.Native.Nat.{◌-◌, ◌≤◌, ◌<◌}
+use native.Mathlib.Numerals.{add-one}
+use native.Mathlib.Omega.{arith}
+use lib.ListN.{length, take, length-set}
+use lib.Seq.{take_all, take-suc-set}
+use borrow.Author.Rules.{rules}
+use Rattle.model.specs.Panel.{records}
+use Rattle.lent.specs.Lent.{slots_from}
+use Rattle.lent.proofs.Tables.{slots-none, slots-more}
+use Rattle.lent.proofs.table_at.Given as goal
+
+abbrev pub invariant-loop-i : goal.invariant-loop-i
+invariant-loop-i l = (l.i ≤ records) × (length l.t ≡ records) × (take l.i l.t ≡ slots_from l.i l.b l.at)
+
+abbrev pub decreases-loop-i : goal.decreases-loop-i
+decreases-loop-i l = records - l.i

@@ -1,0 +1,31 @@
+-- `lent_table::rest_unused` tells whether the records from n up were never used. The loop has gathered those below i. Assumes nothing.
+use borrow.Author.Rules.{rules}
+use mathlib.Core.Path.{◌≡◌, refl, sym, ap, ap₂, ◌∙◌}
+use mathlib.Core.Bool.{Bool, ◌&&◌}
+use mathlib.Core.List.{List, [], ◌∷◌}
+use Prim.Native.Nat.{ℕ, ◌-◌, ◌+◌, ◌*◌, ◌<◌, ◌^◌}
+use native.Mathlib.Omega.{arith}
+use lib.Bits.{and_le_l}
+use lib.Dec.{eqb}
+use lib.ListN.{drop, get_or, get_or-replicate}
+use Rattle.model.specs.Panel.{records}
+use Rattle.model.specs.Table.{eq_slot, eq_table}
+use Rattle.common.proofs.Signs.{and-true}
+use Rattle.panel.specs.declared.Slot.{Slot}
+use Rattle.panel.specs.Seen.{slot_of, table_of, blank, unused, unused_all}
+use Rattle.panel.proofs.Tables.{rest-none, same_turn, same_over}
+use Rattle.lent.specs.Lent.{slot_size, slot_in, table_in}
+use Rattle.lent_table.proofs.Gathered.{ones, none, idle, idle_more, ones_are}
+use Rattle.lent_table.proofs.Read.{full, slot_is}
+use Rattle.lent_table.proofs.rest_unused.Given as goal
+
+-- Whether the records from i on were never used.
+abbrev pub rest_good : List Slot → ℕ → Bool
+rest_good t i = eq_table (table_of (drop i t)) (table_of (drop i unused_all))
+
+abbrev pub invariant-loop-i : goal.invariant-loop-i
+invariant-loop-i l =
+    (l.ids < 2 ^ 32) × (rest_good (table_in l.t) l.n ≡ (idle l.ids (l.x ∷ l.y ∷ l.pressure ∷ l.major ∷ l.minor ∷ []) && rest_good (table_in l.t) l.i))
+
+abbrev pub decreases-loop-i : goal.decreases-loop-i
+decreases-loop-i l = records - l.i

@@ -1,0 +1,6 @@
+-- `pieces::earlier`: the first of two that is one. Assumes nothing.
+use borrow.Author.Rules.{rules}
+use Rattle.pieces.proofs.earlier.Goals as goal
+
+pub returns-in-Event : goal.returns-in-Event
+returns-in-Event c = rw c.in-Event.is

@@ -1,0 +1,21 @@
+-- `ReaderState::fresh`: a fresh reader, or refusal 1 with zeros. Assumes nothing.
+use borrow.Author.Rules.{rules}
+use borrow.Author.Tests.{not-true, not-false}
+use mathlib.Core.Path.{sym, ap, ◌∙◌}
+use Rattle.model.specs.Panel.{base}
+use Rattle.model.proofs.Answers.{reader-not-made, reader-made}
+use Rattle.panel.specs.Seen.{setup_of}
+use Rattle.reader.specs.States.{given, fresh_from}
+use Rattle.reader.proofs.ReaderState.fresh.Goals as goal
+
+pub returns-then-not-setup_ok : goal.returns-then-not-setup_ok
+returns-then-not-setup_ok c =
+    let a = c.args in
+    let u = setup_of (given a.n a.x a.y a.pressure a.major a.minor) in
+    rw c.no_state.ensures (sym (ap fresh_from (reader-not-made base u (sym c.setup_ok.ensures ∙ c.if-not-setup_ok.true))))
+
+pub returns : goal.returns
+returns c =
+    let a = c.args in
+    let u = setup_of (given a.n a.x a.y a.pressure a.major a.minor) in
+    rw c.unused_table-t.ensures (sym (ap fresh_from (reader-made base u (sym c.setup_ok.ensures ∙ c.if-not-setup_ok.false))))
