@@ -1,0 +1,16 @@
+-- `lent_devices::read_block`: the library's answer as numbers. Assumes nothing.
+use mathlib.Core.Path.{◌≡◌, ap, ◌∙◌}
+use Rattle.model.specs.Recorder.{read_block, read_number}
+use Rattle.recorder.specs.Seen.{read_seen}
+use Rattle.recorder.proofs.Laws.{read-seen}
+use Rattle.lent_devices.specs.Blocks.{read_told}
+use borrow.Author.Rules.{rules}
+use Rattle.lent_devices.proofs.read_block.Goals as goal
+
+pub returns : goal.returns
+returns c =
+    let k = c in
+    let s = k in
+    let q : read_seen k.read_block-a.result ≡ read_block s.args.number s.args.block.now =
+    ap read_seen k.read_block-a.ensures.answer ∙ read-seen (read_block s.args.number s.args.block.now) in
+    record { number = c.name_of.ensures ∙ ap read_number q; answer = c.read_told.ensures ∙ ap read_told q }

@@ -1,0 +1,19 @@
+-- `lent_follow::lost`: the end of a run that lost track. Assumes nothing.
+use borrow.Author.Rules.{rules}
+use mathlib.Core.Path.{◌≡◌, sym, ap, ◌∙◌}
+use Prim.Native.Nat.{◌-◌, ◌*◌, ◌/◌}
+use lib.ListN.{length}
+use Rattle.model.proofs.Bytes.{events-length}
+use Rattle.common.specs.Seen.{mode_from}
+use Rattle.common.proofs.Back.{mode_back, skipped_back}
+use Rattle.lent_follow.proofs.lost.Goals as goal
+
+pub returns : goal.returns
+returns c =
+    let taken = c in
+    let a = taken.args in
+    let s = a.bytes.now in
+    let n = length s / 8 in
+    let t = taken.take_back.ensures in
+    let mode = sym (mode_back c.last_mode-mode.result) ∙ ap mode_from c.last_mode-mode.ensures in
+    rw (t.shown, t.pending, events-length (n - a.k) s (8 * a.k), mode, skipped_back a.before.first)

@@ -1,0 +1,42 @@
+-- `lent_pointer::ids_in` has the ids of a table. The loop has taken out i of them. Assumes nothing.
+use borrow.Author.Rules.{rules}
+use mathlib.Core.Path.{◌≡◌, ap, subst, ◌∙◌}
+use Prim.Native.Nat.{◌≤◌, ◌<◌, ◌-◌}
+use native.Mathlib.Omega.{arith}
+use lib.ListN.{set}
+use mir.Syntax.{w32}
+use mir.Val.{SFits}
+use mir.ValLaws.{to_z-of_z}
+use Rattle.panel.specs.declared.Slot.{Slot}
+use Rattle.pointer.proofs.Turns.{Copied, copied-start, copied-turn, copied-over}
+use Rattle.lent.specs.Lent.{table_in}
+use Rattle.lent_table.proofs.Read.{full}
+use Rattle.lent_pointer.proofs.ids_in.Goals as goal
+
+pub loop-i-init : goal.loop-i-init
+loop-i-init c = (search rules, copied-start _ _)
+
+pub slot_of-s-requires : goal.slot_of-s-requires
+slot_of-s-requires c =
+    let s = c in
+    (omega (arith, c.loop-i-test.true, s.requires.0.few), s.requires.1)
+
+pub loop-i-preserved : goal.loop-i-preserved
+loop-i-preserved c =
+    let r = c in
+    let p = r in
+    let s = p in
+    let l = p.loop-i in
+    let t = s.args.t.now in
+    let v = r.slot_of-s.result.id.0 in
+    let f : SFits w32 v = search rules in
+    let is = ap (λ (x : Slot). x.id.0) r.slot_of-s.ensures in
+    let turned = copied-turn s.args.n (table_in t) l.l l.i l.invariant.1 r.loop-i-test.true s.requires.0.few (full t) in
+    rw (to_z-of_z w32 v f, is) (omega (arith, r.loop-i-test.true), turned)
+
+pub returns : goal.returns
+returns c =
+    let s = c in
+    let l = c.loop-i in
+    let at : l.i ≡ s.args.n = omega (arith, l.invariant.0, c.loop-i-test.false) in
+    copied-over s.args.n (table_in s.args.t.now) l.l s.requires.0 (subst (λ i. Copied s.args.n (table_in s.args.t.now) l.l i) at l.invariant.1)

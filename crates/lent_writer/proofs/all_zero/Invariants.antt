@@ -1,0 +1,17 @@
+-- `lent_writer::all_zero` tells whether every rank is 0. The loop has looked at those below i. Assumes nothing.
+use mathlib.Core.Path.{◌≡◌, refl, sym, ap, ◌∙◌}
+use mathlib.Core.Bool.{not, ◌&&◌, and-true}
+use Prim.Native.Nat.{◌≤◌, ◌+◌, ◌-◌}
+use lib.Dec.{eqb}
+use lib.ListN.{drop, get_or}
+use Rattle.model.specs.Panel.{records}
+use Rattle.model.specs.Pointing.{zeros}
+use Rattle.pointer.proofs.Numbers.{zeros-turn, zeros-over, neither}
+use borrow.Author.Rules.{rules}
+use Rattle.lent_writer.proofs.all_zero.Given as goal
+
+abbrev pub invariant-loop-i : goal.invariant-loop-i
+invariant-loop-i l = (l.i ≤ records) × (zeros records l.ranks ≡ (not l.some && zeros (records - l.i) (drop l.i l.ranks)))
+
+abbrev pub decreases-loop-i : goal.decreases-loop-i
+decreases-loop-i l = records - l.i

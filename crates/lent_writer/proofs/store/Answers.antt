@@ -1,0 +1,34 @@
+-- `lent_writer::store` puts a new table, current slot and counter in place of the old ones. Assumes nothing.
+use mathlib.Core.Path.{sym, ap, ◌∙◌}
+use Rattle.model.specs.Records.{low_bytes, lay}
+use Rattle.model.specs.Sending.{changed_mask}
+use Rattle.panel.specs.Seen.{table_of}
+use Rattle.lent.specs.Lent.{table_in}
+use Rattle.lent_writer.specs.Layout.{counter_at}
+use Rattle.lent_writer.specs.Seen.{unpacked}
+use Rattle.lent_writer.proofs.Back.{packed_back, table_long, table-held, stored_in_place}
+use Rattle.lent_writer.proofs.Outcomes.{part-size, table_is}
+use borrow.Author.Rules.{rules}
+use Rattle.lent_writer.proofs.store.Goals as goal
+
+pub keep-requires : goal.keep-requires
+keep-requires c =
+    let s = c in
+    let b = s.args.b.now in
+    let h = s.requires.0 in
+    (part-size b h.size, h.whole, h.told ∙ ap (λ t. changed_mask (table_of t) (table_of (table_in s.args.new.now))) (sym (table_is b h.size)))
+
+pub returns : goal.returns
+returns c =
+    let w₂ = c in
+    let w₁ = w₂ in
+    let k = w₁ in
+    let known = k in
+    let s = known in
+    let a = s.args in
+    let h = s.requires.0 in
+    let b = a.b.now in
+    w₂.put_word-2.ensures
+    ∙ ap (λ l. lay counter_at (low_bytes 4 a.counter) l) w₁.put_word.ensures
+    ∙ stored_in_place (unpacked b) b k.keep.new.t (table_in a.new.now) a.last.0 a.counter (sym (packed_back b known.slice_known-1.given h.formed)) (table_long b)
+    (k.keep.ensures ∙ sym (table-held a.new.now known.shared_slice_known-1.given h.whole))

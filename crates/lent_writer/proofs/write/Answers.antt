@@ -1,0 +1,25 @@
+-- `lent_writer::write` answers as the call by value does, over bytes that are a state's. Assumes nothing.
+use mathlib.Core.Path.{◌≡◌, sym, ◌∙◌}
+use mathlib.Core.Bool.{true}
+use borrow.Author.Tests.{not-true, not-false}
+use Rattle.lent_writer.specs.Seen.{formed}
+use Rattle.lent_writer.proofs.Forms.{form}
+use Rattle.lent_writer.proofs.Told.{frame_refused}
+use borrow.Author.Rules.{rules}
+use Rattle.lent_writer.proofs.write.Goals.{Else-not-formed}
+use Rattle.lent_writer.proofs.write.Goals as goal
+
+formed-at : (t : Else-not-formed) → formed t.args.state.now ≡ true
+formed-at t = sym t.formed.ensures ∙ t.if-not-formed.false
+
+pub returns-then-not-formed : goal.returns-then-not-formed
+returns-then-not-formed c =
+    let k = c in
+    let a = k.args in
+    let e = sym k.formed.ensures ∙ c.if-not-formed.true in
+    frame_refused a.state.now a.at a.buf.now a.frame.now e c.unsent.result c.unsent.new.answer c.unsent.ensures
+
+pub in_place-requires : goal.in_place-requires
+in_place-requires c =
+    let t = c in
+    record { formed = formed-at (goal.at.in_place-requires t).Else-not-formed; size = (form t.args.state.now (formed-at (goal.at.in_place-requires t).Else-not-formed)).size }
