@@ -22,16 +22,8 @@ few-told : (b : List ℕ) (f : List ℤ) (at n : ℕ) (told : List ℕ) → told
 few-told b f at n told e = subst (λ (l : List ℕ). get_or l 0 0 ≤ most_events base + 4) (sym e) (few b f at n)
 
 pub answered-out-requires : goal.answered-out-requires
-answered-out-requires c =
-    let w = c in
-    let handed = w.loop-at.state in
-    few-told handed _ _ _ _ w.write-number.ensures.answer
-
-pub overflow_add-at : goal.overflow_add-at
-overflow_add-at c = omega (arith, c)
-
-pub loop-at-smaller : goal.loop-at-smaller
-loop-at-smaller c = omega (arith, c)
+answered-out-requires c = few-told c.loop-at.state _ _ _ _ c.write-number.ensures.answer
 
 pub loop-at-preserved : goal.loop-at-preserved
-loop-at-preserved c = (omega (arith, c), omega (arith, c), omega (arith, c, c), omega (arith, c, c), search rules, ap length c.write-number.ensures.answer)
+loop-at-preserved c =
+    (omega arith, omega arith, omega arith, omega arith, search rules, ap length c.write-number.ensures.answer)
