@@ -17,7 +17,8 @@ use Rattle.hold_to_lift.specs.Key.{lifts}
 use Rattle.hold_to_lift.proofs.may_lift.Reads as may-lift
 
 -- Well formed or not, with such a slot or without.
-by_mode : (m : Mode) (good there : Bool) (s : Slot) → Lost m → lifts (asked_from (cond good (cond there (asked_in m s) no_such_slot) (refused state))) ≡ false
+by_mode : (m : Mode) (good there : Bool) (s : Slot) → Lost m
+    → lifts (asked_from (cond good (cond there (asked_in m s) no_such_slot) (refused state))) ≡ false
 by_mode following good there s l = absurd l
 by_mode dropped true true s l = refl
 by_mode dropped true false s l = refl
