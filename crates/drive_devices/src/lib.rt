@@ -1,6 +1,7 @@
 // What a script's calls of the devices beside the panel answer: the pod, the commands to it, the shift recorder and the force stick.
 // `answer` makes a call on the proved library and says every part of its answer; `parts` is for the panel's calls too.
 #![tactic(auto)]
+
 mod blocks;
 mod orders;
 pub mod parts;

@@ -1,5 +1,6 @@
 // How a reading ended, in words: what show_table and replay say of a reader, of a lost input and of records that were skipped. It promises nothing about a stream but that saying ends.
 #![tactic(auto)]
+
 ghost use Rattle.std.specs.Prelude.{◌≡◌};
 ghost use Rattle.model.specs.Panel.{base};
 ghost use Rattle.model.specs.Calls.{run_call};
@@ -8,6 +9,7 @@ ghost use Rattle.reader.specs.States.{seen, held};
 
 use common::{Counts, Mode};
 use reader::ReaderState;
+use std::io::Error;
 use stream::Out;
 
 fn say_mode(page: &mut [u8], out: Out, m: Mode) -> Out {
@@ -89,9 +91,9 @@ pub fn say_end(page: &mut [u8], out: Out, name: &[u8], t: Tally, s: ReaderState)
     say_state(page, a, s)
 }
 
-// A failed read is a loss and not the end of input: nobody knows what was lost with it. To be called before any other call can fail.
-pub fn warn_lost(out: Out, name: &[u8]) -> Out {
-    let a = stream::read_failed(out, name);
+// A failed read is a loss and not the end of input: nobody knows what was lost with it.
+pub fn warn_lost(out: Out, name: &[u8], why: Error) -> Out {
+    let a = stream::read_failed(out, name, why);
     let b = stream::warn(a, name);
     stream::warn(b, b": input was lost, which counts as SYN_DROPPED\n")
 }

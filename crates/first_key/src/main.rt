@@ -1,5 +1,6 @@
 // A first program over the library: a hold-to-lift key that reads one finger's events. README.md shows the whole of it.
 #![tactic(auto)]
+
 use common::SlotNumber;
 use reader::{ReaderState, SlotAnswer};
 use stream::Out;
@@ -41,9 +42,9 @@ fn read_finger(page: &mut [u8], out: Out) -> Out {
     tell(page, a, after)
 }
 
-fn main() {
+fn main(rt: HostRuntime) {
     let mut page = io::buffer();
-    let begun = stream::begin(b"first_key");
+    let begun = stream::begin(&rt, b"first_key");
     if begun.status != stream::ACCEPTED {
         stream::finish(&page, begun, b"first_key");
         return;

@@ -1,5 +1,6 @@
 // An example of calling the library from another crate: a hold-to-lift key, and when it may lift. README.md shows it. Reads no input.
 #![tactic(auto)]
+
 ghost use Rattle.std.specs.Prelude.{◌≡◌};
 ghost use Rattle.model.specs.Panel.{base};
 ghost use Rattle.model.specs.Calls.{ask_call};
@@ -78,9 +79,9 @@ fn tell_all(page: &mut [u8], out: Out) -> Out {
     tell(page, b, b"events were lost", lost)
 }
 
-fn main() {
+fn main(rt: HostRuntime) {
     let mut page = io::buffer();
-    let begun = stream::begin(b"hold_to_lift");
+    let begun = stream::begin(&rt, b"hold_to_lift");
     if begun.status != stream::ACCEPTED {
         stream::finish(&page, begun, b"hold_to_lift");
         return;

@@ -7,7 +7,7 @@ use Rattle.model.proofs.Blocks.{check-first, number-second}
 use Rattle.model.proofs.Tampered.{drop-take}
 use Rattle.recorder.specs.Seen.{held_read, read_seen}
 use Rattle.recorder.specs.declared.BlockRead.{BlockRead}
-use Rattle.recorder.specs.declared.BlockRead.TheVariants.{Events, WrongCheck, WrongNumber}
+use Rattle.recorder.specs.declared.BlockRead.TheVariants.{Events, WrongNumber}
 use Rattle.recorder.proofs.Laws.{read-seen, answered}
 use Rattle.recorder.proofs.Promises.{events_within}
 use Rattle.reader.specs.States.{seen, held}

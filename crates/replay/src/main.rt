@@ -1,6 +1,7 @@
 // Replays a recording: standard input is a setup and blocks of 512 bytes, as record writes them (document 02's K2); standard output is what show_table prints for their events.
 // A refused block is read as SYN_DROPPED and named on standard error. Each block is expected to carry its place, also after a refused one.
 #![tactic(auto)]
+
 ghost use Rattle.std.specs.Prelude.{◌≡◌};
 ghost use Rattle.model.specs.Panel.{base};
 ghost use Rattle.model.specs.Calls.{run_call};
@@ -15,6 +16,7 @@ use header::Header;
 use reader::ReaderState;
 use recorder::{BLOCK, BlockRead};
 use records::LENGTH;
+use std::io::Error;
 use stream::Out;
 
 // The last number of a block, and one that no block has.
@@ -132,7 +134,7 @@ struct Reading {
     place: u64,
     refused: bool,
     again: bool,
-    failed: bool,
+    failed: Option<Error>,
 }
 
 fn take_piece(r: Reading, piece: &[u8], again: bool) -> Reading {
@@ -151,11 +153,11 @@ fn take_piece(r: Reading, piece: &[u8], again: bool) -> Reading {
         place,
         refused: r.refused | is_refused(read),
         again,
-        failed: false,
+        failed: None,
     }
 }
 
-fn ended(r: Reading, failed: bool) -> Reading {
+fn ended(r: Reading, failed: Option<Error>) -> Reading {
     let state = r.state;
     let tally = r.tally;
     let out = r.out;
@@ -172,14 +174,15 @@ fn ended(r: Reading, failed: bool) -> Reading {
 
 // A block, or what is left at the end. What a failed read cut is lost with it, and is no refusal.
 fn read_piece(r: Reading) -> Reading {
+    let out = r.out;
     let mut block = [0u8; BLOCK];
-    let f = stream::fill(&mut block);
-    if f.failed {
-        return ended(r, true);
+    let f = stream::fill(out.streams.input, &mut block);
+    if let Some(why) = f.failed {
+        return ended(r, Some(why));
     }
     let n = f.n;
     if n == 0 {
-        return ended(r, false);
+        return ended(r, None);
     }
     take_piece(r, &block[..n], !f.ended)
 }
@@ -213,8 +216,8 @@ fn show(page: &mut [u8], r: Reading) -> Out {
     let state = r.state;
     let tally = r.tally;
     let out = r.out;
-    if r.failed {
-        let a = ending::warn_lost(out, b"replay");
+    if let Some(why) = r.failed {
+        let a = ending::warn_lost(out, b"replay", why);
         let b = hint(a, r.refused);
         return ending::say_end(page, b, b"replay", tally, ending::lose(state));
     }
@@ -230,7 +233,7 @@ fn replay(page: &mut [u8], out: Out, state: ReaderState) -> Out {
         place: 0,
         refused: false,
         again: true,
-        failed: false,
+        failed: None,
     });
     show(page, r)
 }
@@ -249,17 +252,17 @@ fn after_setup(page: &mut [u8], out: Out, h: Header) -> Out {
 }
 
 fn answer(page: &mut [u8], out: Out) -> Out {
-    let h = header::read();
-    if h.failed {
-        let a = stream::read_failed(out, b"replay");
+    let h = header::read(out.streams.input);
+    if let Some(why) = h.failed {
+        let a = stream::read_failed(out, b"replay", why);
         return after_setup(page, a, h);
     }
     after_setup(page, out, h)
 }
 
-fn main() {
+fn main(rt: HostRuntime) {
     let mut page = io::buffer();
-    let begun = stream::begin(b"replay");
+    let begun = stream::begin(&rt, b"replay");
     if begun.status != stream::ACCEPTED {
         stream::finish(&page, begun, b"replay");
         return;

@@ -1,9 +1,11 @@
 // Document 01's small program: reads a setup and event records from standard input and shows what a fresh reader makes of them.
 #![tactic(auto)]
+
 use common::{Counts, Verdict};
 use ending::Tally;
 use header::Header;
 use pieces::LineState;
+use std::io::{Error, Stdin};
 use stream::Out;
 
 // How the reading stands: the reader, with the bytes of a record that is cut; what it counted for a hint; whether there is more, or a read failed.
@@ -12,7 +14,7 @@ struct Reading {
     state: LineState,
     tally: Tally,
     again: bool,
-    failed: bool,
+    failed: Option<Error>,
 }
 
 // A piece as the line delivered it. It refuses no state that came from fresh, so there is no verdict to look at.
@@ -27,13 +29,13 @@ fn take_piece(r: Reading, bytes: &[u8]) -> Reading {
         state,
         tally: tally.with(came / 8, counts),
         again: true,
-        failed: false,
+        failed: None,
     }
 }
 
 // One read, of as many bytes as the line has ready. The buffer is lent, since clearing one for each read costs more than many a piece.
-fn read_some(r: Reading, buf: &mut [u8]) -> Reading {
-    let f = stream::some(buf);
+fn read_some(input: Stdin, r: Reading, buf: &mut [u8]) -> Reading {
+    let f = stream::some(input, buf);
     let n = f.n;
     if n == 0 {
         let state = r.state;
@@ -49,16 +51,16 @@ fn read_some(r: Reading, buf: &mut [u8]) -> Reading {
 }
 
 // A proved loop has to end, and nothing says that the input does: the turns are counted down from a number that no run uses up.
-fn read_all(s: LineState, buf: &mut [u8]) -> Reading {
+fn read_all(input: Stdin, s: LineState, buf: &mut [u8]) -> Reading {
     let mut r = Reading {
         state: s,
         tally: Tally::none(),
         again: true,
-        failed: false,
+        failed: None,
     };
     let mut turns = u64::MAX;
     while turns > 0 {
-        r = read_some(r, buf);
+        r = read_some(input, r, buf);
         if !r.again {
             return r;
         }
@@ -76,12 +78,12 @@ fn refuse_rest(page: &mut [u8], out: Out, rest: usize) -> Out {
 
 fn show(page: &mut [u8], out: Out, s: LineState) -> Out {
     let mut buf = io::large_buffer();
-    let r = read_all(s, &mut buf);
+    let r = read_all(out.streams.input, s, &mut buf);
     let line = r.state;
     let state = line.reader;
     let tally = r.tally;
-    if r.failed {
-        let a = ending::warn_lost(out, b"show_table");
+    if let Some(why) = r.failed {
+        let a = ending::warn_lost(out, b"show_table", why);
         return ending::say_end(page, a, b"show_table", tally, ending::lose(state));
     }
     if line.count != 0 {
@@ -104,17 +106,17 @@ fn after_setup(page: &mut [u8], out: Out, h: Header) -> Out {
 }
 
 fn answer(page: &mut [u8], out: Out) -> Out {
-    let h = header::read();
-    if h.failed {
-        let a = stream::read_failed(out, b"show_table");
+    let h = header::read(out.streams.input);
+    if let Some(why) = h.failed {
+        let a = stream::read_failed(out, b"show_table", why);
         return after_setup(page, a, h);
     }
     after_setup(page, out, h)
 }
 
-fn main() {
+fn main(rt: HostRuntime) {
     let mut page = io::buffer();
-    let begun = stream::begin(b"show_table");
+    let begun = stream::begin(&rt, b"show_table");
     if begun.status != stream::ACCEPTED {
         stream::finish(&page, begun, b"show_table");
         return;

@@ -1,0 +1,48 @@
+-- `lent_line::line_fresh`: refusals 1 and 2, and the fresh state stored. Assumes nothing.
+use mathlib.Core.Path.{◌≡◌, sym, ap, ◌∙◌}
+use native.Mathlib.Omega.{arith}
+use lib.ListN.{get_or}
+use Rattle.model.specs.Panel.{base}
+use Rattle.model.specs.Pieces.{fresh_line_call}
+use Rattle.panel.specs.Seen.{setup_of}
+use Rattle.reader.specs.States.{given}
+use Rattle.pieces.specs.Seen.{fresh_from}
+use Rattle.lent_reader.specs.Seen.{setup_from}
+use Rattle.lent_reader.proofs.Stored.{good-n, good-slot}
+use Rattle.lent_line.proofs.Calls.{fresh-ready, fresh-refused, fresh_unfit, fresh-stored}
+use borrow.Author.Rules.{rules}
+use Rattle.lent_line.proofs.line_fresh.Goals.{After-number-number}
+use Rattle.lent_line.proofs.line_fresh.Goals as goal
+
+-- The fresh state by value, of the six numbers lent.
+made : (c : After-number-number) → c.fresh-made.result ≡ fresh_from (fresh_line_call base (setup_of (setup_from c.args.setup.now)))
+made c =
+    let s = c.args.setup.now in
+    c.fresh-made.ensures
+    ∙ ap (λ n. fresh_from (fresh_line_call base (setup_of (given n (get_or s 1 0) (get_or s 2 0) (get_or s 3 0) (get_or s 4 0) (get_or s 5 0))))) c.wide.ensures
+
+pub returns-then-number-ne0 : goal.returns-then-number-ne0
+returns-then-number-ne0 c = let k = c in let a = k.args in fresh-refused a.setup.now k.fresh-made.result (made (goal.at.returns-then-number-ne0 k).After-number-number) a.state.now k.number-number.result k.number-number.ensures c.if-number-ne0.true
+
+pub returns-then-state-ne-SIZE : goal.returns-then-state-ne-SIZE
+returns-then-state-ne-SIZE c =
+    let k = c in
+    let a = k.args in
+    fresh_unfit a.setup.now k.fresh-made.result (made (goal.at.returns-then-state-ne-SIZE k).After-number-number) a.state.now (sym k.number-number.ensures ∙ c.if-number-ne0.false) c.if-state-ne-SIZE.true
+
+pub put_state-requires : goal.put_state-requires
+put_state-requires c =
+    let k = c in
+    let s = k.fresh-made.result.state in
+    let g = fresh-ready k.args.setup.now k.fresh-made.result (made (goal.at.put_state-requires k).After-number-number) (sym k.number-number.ensures ∙ c.if-number-ne0.false) in
+    (c.if-state-ne-SIZE.false, omega (arith, g.few), good-n s.reader g.good, good-slot s.reader g.good)
+
+pub returns : goal.returns
+returns c =
+    let p = c in
+    let k = p in
+    let a = k.args in
+    fresh-stored a.setup.now k.fresh-made.result (made (goal.at.returns k).After-number-number) a.state.now p.put_state.new.b
+    (sym k.number-number.ensures ∙ p.if-number-ne0.false)
+    p.if-state-ne-SIZE.false
+    p.put_state.ensures
