@@ -1,6 +1,7 @@
 // Runs the bench sheet of document 01: a line for each of its Run cases, but the small program's, with every number of the answer, and the cases of 02's requests.
 // Reads no input.
 #![tactic(auto)]
+
 use common::{Mode, TrackingId};
 use panel::{RECORDS, Setup, Slot};
 use pod::PodState;
@@ -437,9 +438,9 @@ fn answer(page: &mut [u8], out: Out) -> Out {
     setup_cases(page, d)
 }
 
-fn main() {
+fn main(rt: HostRuntime) {
     let mut page = io::buffer();
-    let begun = stream::begin(b"bench_sheet");
+    let begun = stream::begin(&rt, b"bench_sheet");
     if begun.status != stream::ACCEPTED {
         stream::finish(&page, begun, b"bench_sheet");
         return;

@@ -1,5 +1,6 @@
 // What a crane's display shows: reads what the product's writer writes, the setup of six numbers and event records, from standard input, and shows what a fresh cranes' reader makes of them.
 #![tactic(auto)]
+
 mod lines;
 mod setup;
 
@@ -8,6 +9,7 @@ ghost use Rattle.std.specs.Prelude.{◌≡◌, true};
 use common::{Counts, Verdict};
 use crane_reader::ReaderState;
 use setup::Header;
+use std::io::{Error, Stdin};
 use stream::Out;
 
 // How the reading stands: the reader; how many records it read while following, and how many of them have an unknown type; the bytes of a record that is cut; whether there is more, or a read failed.
@@ -18,7 +20,7 @@ struct Reading {
     strange: u64,
     rest: usize,
     again: bool,
-    failed: bool,
+    failed: Option<Error>,
 }
 
 // The counts are for a hint alone, so they may wrap. A size is skipped for its code and is not strange.
@@ -34,29 +36,29 @@ fn read_records(r: Reading, bytes: &[u8]) -> Reading {
         strange: std::num::wrapping_add_u64(r.strange, counts.types as u64),
         rest: 0,
         again: false,
-        failed: false,
+        failed: None,
     }
 }
 
 // A buffer's whole records. It is full while there is more, so a record is cut only at the end or by a failed read: one that two reads bring is whole here.
-fn read_some(r: Reading) -> Reading
+fn read_some(input: Stdin, r: Reading) -> Reading
     ensures { result.again ≡ true → result.rest ≡ 0 }
 {
     let mut buf = io::large_buffer();
-    let f = stream::fill(&mut buf);
+    let f = stream::fill(input, &mut buf);
     let n = f.n;
     let rest = n % 8;
     let whole = n - rest;
     let q = read_records(r, &buf[..whole]);
     let state = q.state;
-    if f.failed {
+    if let Some(why) = f.failed {
         return Reading {
             state,
             followed: q.followed,
             strange: q.strange,
             rest,
             again: false,
-            failed: true,
+            failed: Some(why),
         };
     }
     if f.ended {
@@ -66,7 +68,7 @@ fn read_some(r: Reading) -> Reading
             strange: q.strange,
             rest,
             again: false,
-            failed: false,
+            failed: None,
         };
     }
     Reading {
@@ -75,23 +77,23 @@ fn read_some(r: Reading) -> Reading
         strange: q.strange,
         rest,
         again: true,
-        failed: false,
+        failed: None,
     }
 }
 
 // A proved loop has to end, and nothing says that the input does: the turns are counted down from a number that no run uses up.
-fn read_all(s: ReaderState) -> Reading {
+fn read_all(input: Stdin, s: ReaderState) -> Reading {
     let mut r = Reading {
         state: s,
         followed: 0,
         strange: 0,
         rest: 0,
         again: true,
-        failed: false,
+        failed: None,
     };
     let mut turns = u64::MAX;
     while turns > 0 {
-        r = read_some(r);
+        r = read_some(input, r);
         if !r.again {
             return r;
         }
@@ -138,10 +140,10 @@ fn refuse_rest(page: &mut [u8], out: Out, rest: usize) -> Out {
 }
 
 fn show(page: &mut [u8], out: Out, s: ReaderState) -> Out {
-    let r = read_all(s);
+    let r = read_all(out.streams.input, s);
     let state = r.state;
-    if r.failed {
-        let a = stream::read_failed(out, b"crane_table");
+    if let Some(why) = r.failed {
+        let a = stream::read_failed(out, b"crane_table", why);
         let b = stream::warn(
             a,
             b"crane_table: input was lost, which counts as SYN_DROPPED\n",
@@ -175,17 +177,17 @@ fn after_setup(page: &mut [u8], out: Out, h: Header) -> Out {
 }
 
 fn answer(page: &mut [u8], out: Out) -> Out {
-    let h = setup::read();
-    if h.failed {
-        let a = stream::read_failed(out, b"crane_table");
+    let h = setup::read(out.streams.input);
+    if let Some(why) = h.failed {
+        let a = stream::read_failed(out, b"crane_table", why);
         return after_setup(page, a, h);
     }
     after_setup(page, out, h)
 }
 
-fn main() {
+fn main(rt: HostRuntime) {
     let mut page = io::buffer();
-    let begun = stream::begin(b"crane_table");
+    let begun = stream::begin(&rt, b"crane_table");
     if begun.status != stream::ACCEPTED {
         stream::finish(&page, begun, b"crane_table");
         return;

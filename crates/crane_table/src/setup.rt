@@ -1,10 +1,11 @@
 // The setup in front of a crane's input, as the product's writer sends it: 24 bytes, n, largest x, y, pressure, major and minor, each 32 bits and little-endian. A crane uses the first four and does not judge the sizes.
 use crane_panel::{MOST_POSITION, MOST_PRESSURE, RECORDS};
+use std::io::{Error, Stdin};
 use stream::Out;
 
 pub const BYTES: usize = 24;
 
-// The four numbers, how many of the bytes there were, and whether a read failed before there were all.
+// The four numbers, how many of the bytes there were, and why a read failed before there were all.
 #[derive(Clone, Copy)]
 pub struct Header {
     pub n: u32,
@@ -12,12 +13,12 @@ pub struct Header {
     pub y: u32,
     pub pressure: u32,
     pub count: usize,
-    pub failed: bool,
+    pub failed: Option<Error>,
 }
 
-pub fn read() -> Header {
+pub fn read(input: Stdin) -> Header {
     let mut b = [0u8; BYTES];
-    let f = stream::fill(&mut b);
+    let f = stream::fill(input, &mut b);
     Header {
         n: records::join32(b[0], b[1], b[2], b[3]),
         x: records::join32(b[4], b[5], b[6], b[7]),

@@ -1,5 +1,6 @@
 // Explains event records one by one, for a class and a service desk. Standard input is what show_table reads; standard output has a line for each record, with what the reader did with it and why, and at the end the mode and the counts.
 #![tactic(auto)]
+
 mod deeds;
 mod lines;
 mod names;
@@ -12,6 +13,7 @@ use common::Verdict;
 use header::Header;
 use pieces::{LineState, PLACES};
 use records::LENGTH;
+use std::io::Error;
 use stream::Out;
 use sums::Sums;
 
@@ -154,15 +156,15 @@ fn refuse_rest(page: &mut [u8], out: Out, rest: usize) -> Out {
 }
 
 // The output after the last read, which failed or ended, perhaps inside a record.
-fn end(page: &mut [u8], s: Standing, failed: bool) -> Out {
+fn end(page: &mut [u8], s: Standing, failed: Option<Error>) -> Out {
     let state = s.state;
     let sums = s.sums;
     let out = s.out;
-    if failed {
+    if let Some(why) = failed {
         let told = Standing {
             state,
             sums,
-            out: stream::read_failed(out, b"explain"),
+            out: stream::read_failed(out, b"explain", why),
         };
         return lose(page, told);
     }
@@ -189,7 +191,7 @@ fn onward(s: Standing) -> Turn {
     }
 }
 
-fn ended(page: &mut [u8], s: Standing, failed: bool) -> Turn {
+fn ended(page: &mut [u8], s: Standing, failed: Option<Error>) -> Turn {
     let out = end(page, s, failed);
     let state = s.state;
     let sums = s.sums;
@@ -201,8 +203,9 @@ fn ended(page: &mut [u8], s: Standing, failed: bool) -> Turn {
 
 // One read, of as many bytes as the line has ready.
 fn read_some(page: &mut [u8], s: Standing) -> Turn {
+    let out = s.out;
     let mut buf = io::large_buffer();
-    let f = stream::some(&mut buf);
+    let f = stream::some(out.streams.input, &mut buf);
     let n = f.n;
     if n == 0 {
         return ended(page, s, f.failed);
@@ -241,17 +244,17 @@ fn after_setup(page: &mut [u8], out: Out, h: Header) -> Out {
 }
 
 fn answer(page: &mut [u8], out: Out) -> Out {
-    let h = header::read();
-    if h.failed {
-        let a = stream::read_failed(out, b"explain");
+    let h = header::read(out.streams.input);
+    if let Some(why) = h.failed {
+        let a = stream::read_failed(out, b"explain", why);
         return after_setup(page, a, h);
     }
     after_setup(page, out, h)
 }
 
-fn main() {
+fn main(rt: HostRuntime) {
     let mut page = io::large_buffer();
-    let begun = stream::begin(b"explain");
+    let begun = stream::begin(&rt, b"explain");
     if begun.status != stream::ACCEPTED {
         stream::finish(&page, begun, b"explain");
         return;

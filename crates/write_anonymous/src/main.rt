@@ -1,6 +1,7 @@
 // Writes an anonymous panel's frames as events: standard input is a setup and type A records, standard output that setup and the type B records written (document 02's K12).
 // A frame is all records up to and with the next SYN_REPORT. A refusal is a line on standard error, and the next frame goes on from the state as it was. Input that was lost is passed on as SYN_DROPPED.
 #![tactic(auto)]
+
 ghost use Rattle.std.specs.Prelude.{◌≡◌, ◌+◌, ◌<◌, ◌≤◌, length};
 ghost use Rattle.io.specs.Counts.{IsPrefixLen};
 ghost use Rattle.model.specs.Panel.{base};
@@ -11,6 +12,7 @@ use common::Verdict;
 use header::Header;
 use panel::{MOST_EVENTS, Setup};
 use records::{Event, LENGTH};
+use std::io::{Error, Stdin};
 use stream::{Filled, Out};
 use writer::WriterState;
 
@@ -92,8 +94,7 @@ fn longer(page: &[u8], out: Out, count: usize) -> Out
     let held = stream::within(out.held, page);
     Out {
         held: held + LENGTH * count,
-        broken: out.broken,
-        status: out.status,
+        ..out
     }
 }
 
@@ -244,21 +245,21 @@ fn flushed(page: &[u8], s: Sending) -> Sending {
     }
 }
 
-fn read_failed(s: Sending) -> Sending {
+fn read_failed(s: Sending, why: Error) -> Sending {
     let state = s.state;
     let out = s.out;
     Sending {
         state,
-        out: stream::read_failed(out, b"write_anonymous"),
+        out: stream::read_failed(out, b"write_anonymous", why),
         frame: s.frame,
         skipping: s.skipping,
     }
 }
 
 // The read failed, or the input ended: inside a frame that is a loss too, and the library refuses a frame without its SYN_REPORT.
-fn end(page: &mut [u8], s: Sending, bytes: &[u8], failed: bool) -> Sending {
-    if failed {
-        return lose(page, read_failed(s));
+fn end(page: &mut [u8], s: Sending, bytes: &[u8], failed: Option<Error>) -> Sending {
+    if let Some(why) = failed {
+        return lose(page, read_failed(s, why));
     }
     if s.skipping {
         return lose(page, s);
@@ -287,11 +288,11 @@ fn take(page: &mut [u8], s: Sending, buf: &mut [u8], held: usize, total: usize) 
 }
 
 // A read into no room brings nothing, and would look like the end of the input.
-fn read_behind(buf: &mut [u8], held: usize) -> Filled
+fn read_behind(input: Stdin, buf: &mut [u8], held: usize) -> Filled
     requires { held < length buf.old }
     ensures { held + result.n ≤ length buf.new }
 {
-    stream::some(&mut buf[held..])
+    stream::some(input, &mut buf[held..])
 }
 
 fn read_some(page: &mut [u8], buf: &mut [u8], turn: Turn) -> Turn
@@ -299,8 +300,9 @@ fn read_some(page: &mut [u8], buf: &mut [u8], turn: Turn) -> Turn
     ensures { result.held ≤ longest }
 {
     let s = turn.sending;
+    let out = s.out;
     let held = turn.held;
-    let f = read_behind(buf, held);
+    let f = read_behind(out.streams.input, buf, held);
     if f.n == 0 {
         return Turn {
             sending: end(page, s, &buf[..held], f.failed),
@@ -375,17 +377,17 @@ fn after_setup(page: &mut [u8], out: Out, h: Header) -> Out {
 }
 
 fn answer(page: &mut [u8], out: Out) -> Out {
-    let h = header::read();
-    if h.failed {
-        let a = stream::read_failed(out, b"write_anonymous");
+    let h = header::read(out.streams.input);
+    if let Some(why) = h.failed {
+        let a = stream::read_failed(out, b"write_anonymous", why);
         return after_setup(page, a, h);
     }
     after_setup(page, out, h)
 }
 
-fn main() {
+fn main(rt: HostRuntime) {
     let mut page = io::large_buffer();
-    let begun = stream::begin(b"write_anonymous");
+    let begun = stream::begin(&rt, b"write_anonymous");
     if begun.status != stream::ACCEPTED {
         stream::finish(&page, begun, b"write_anonymous");
         return;

@@ -1,12 +1,14 @@
 // Writes frames as events: standard input is n, largest x, y, pressure, major and minor and then frames of 6n numbers, all 32-bit little-endian; standard output is that header and every record written.
 // A refusal is a line on standard error, and the next frame goes on from the state as it was. Input that was lost is passed on as SYN_DROPPED. The argument --pointer turns pointer emulation on.
 #![tactic(auto)]
+
 ghost use Rattle.std.specs.Prelude.{◌≡◌, ◌+◌, ◌≤◌, length, take as first};
 ghost use Rattle.model.specs.Panel.{base};
 ghost use Rattle.model.specs.Calls.{most_events};
 
 use header::Header;
 use panel::{MOST_EVENTS, PER_SLOT, RECORDS};
+use std::io::Error;
 use stream::Out;
 
 // The bytes of a number and of a slot's, and the numbers of the largest frame.
@@ -74,8 +76,7 @@ fn longer(page: &[u8], out: Out, count: u64) -> Out
     let held = stream::within(out.held, page);
     Out {
         held: held + records::LENGTH * count as usize,
-        broken: out.broken,
-        status: out.status,
+        ..out
     }
 }
 
@@ -152,11 +153,17 @@ fn flushed(page: &[u8], s: Sending) -> Sending {
 }
 
 // The read failed, or the input ended: inside a frame that is a loss too, and the writer refuses what came of it by its length.
-fn end(page: &mut [u8], state: &mut [u8], s: Sending, bytes: &[u8], failed: bool) -> Sending {
-    if failed {
+fn end(
+    page: &mut [u8],
+    state: &mut [u8],
+    s: Sending,
+    bytes: &[u8],
+    failed: Option<Error>,
+) -> Sending {
+    if let Some(why) = failed {
         let out = s.out;
         let told = Sending {
-            out: stream::read_failed(out, b"write_frames"),
+            out: stream::read_failed(out, b"write_frames", why),
             frame: s.frame,
         };
         return lose(page, told);
@@ -198,8 +205,9 @@ fn take(
 
 fn read_some(page: &mut [u8], state: &mut [u8], buf: &mut [u8], turn: Turn, want: usize) -> Turn {
     let s = turn.sending;
+    let out = s.out;
     let from = stream::within(turn.held, buf);
-    let f = stream::some(&mut buf[from..]);
+    let f = stream::some(out.streams.input, &mut buf[from..]);
     if f.n == 0 {
         return Turn {
             sending: end(page, state, s, &buf[..from], f.failed),
@@ -266,17 +274,17 @@ fn after_setup(page: &mut [u8], out: Out, h: Header, pointer: bool) -> Out {
 }
 
 fn answer(page: &mut [u8], out: Out, pointer: bool) -> Out {
-    let h = header::read();
-    if h.failed {
-        let a = stream::read_failed(out, b"write_frames");
+    let h = header::read(out.streams.input);
+    if let Some(why) = h.failed {
+        let a = stream::read_failed(out, b"write_frames", why);
         return after_setup(page, a, h, pointer);
     }
     after_setup(page, out, h, pointer)
 }
 
-fn main() {
+fn main(rt: HostRuntime) {
     let mut page = io::large_buffer();
-    let begun = stream::begin_with(b"write_frames", b"--pointer");
+    let begun = stream::begin_with(&rt, b"write_frames", b"--pointer");
     let first = begun.out;
     if first.status != stream::ACCEPTED {
         stream::finish(&page, first, b"write_frames");
