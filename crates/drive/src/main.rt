@@ -1,5 +1,6 @@
 // Makes each call of a script on the proved library and prints every part of its answer: docs/DRIVE.md. What an independent program is compared through.
 #![tactic(auto)]
+
 mod answers;
 mod crane;
 mod cut;
@@ -7,6 +8,7 @@ mod say;
 mod states;
 
 use drive_lines::{calls, numbers};
+use std::io::Error;
 use stream::Out;
 
 const NEWLINE: u8 = 10;
@@ -120,10 +122,10 @@ fn take_all(
 }
 
 // A line that a failed read cut off is not answered: nobody knows what it was.
-fn end(page: &mut [u8], s: Script, line: &mut [u8], ns: &mut [u64], failed: bool) -> Out {
-    if failed {
+fn end(page: &mut [u8], s: Script, line: &mut [u8], ns: &mut [u64], failed: Option<Error>) -> Out {
+    if let Some(why) = failed {
         let out = s.out;
-        return stream::read_failed(out, b"drive");
+        return stream::read_failed(out, b"drive", why);
     }
     end_line(page, s, line, ns)
 }
@@ -147,7 +149,7 @@ fn drive(page: &mut [u8], begun: Out, bytes: &mut [u8], line: &mut [u8], ns: &mu
         if out.broken {
             return out;
         }
-        let f = stream::some(bytes);
+        let f = stream::some(out.streams.input, bytes);
         let n = f.n;
         if n == 0 {
             return end(page, s, line, ns, f.failed);
@@ -166,9 +168,9 @@ fn answer(page: &mut [u8], begun: Out) -> Out {
     drive(page, begun, &mut bytes, &mut line, &mut ns)
 }
 
-fn main() {
+fn main(rt: HostRuntime) {
     let mut page = io::large_buffer();
-    let begun = stream::begin(b"drive");
+    let begun = stream::begin(&rt, b"drive");
     if begun.status != stream::ACCEPTED {
         stream::finish(&page, begun, b"drive");
         return;
