@@ -1,5 +1,6 @@
 // What a record asks of a reader, by its type and code: the one place where the code tells them apart. The reader's loop stands on it.
 #![tactic(auto)]
+
 ghost use Rattle.std.specs.Prelude.{◌≡◌, ℤ};
 ghost use Rattle.model.specs.Events.{classify};
 ghost use Rattle.panel.specs.Seen.{panel_seen};

@@ -9,12 +9,12 @@ use lib.IntN.{ℤ, pos}
 use lib.ListN.{length, take, replicate, length-append, length-replicate}
 use lib.Seq.{take_at}
 use borrow.Author.Tests.{le-leb, lt-leb}
-use Rattle.model.specs.Panel.{Layout, Panel, base, per_slot, records, panel_of}
+use Rattle.model.specs.Panel.{Panel, base, per_slot, records}
 use Rattle.model.specs.Records.{events_of}
 use Rattle.model.specs.Shift.{flat}
 use Rattle.model.specs.Calls as C
 use Rattle.model.specs.Calls.{verdict_number, check, is_accepted}
-use Rattle.model.specs.Pointing.{PointerState, PointerWritten, pointer_good, pointer_refused, pointer_call, pointer_buffer}
+use Rattle.model.specs.Pointing.{PointerWritten, pointer_good, pointer_refused, pointer_call, pointer_buffer}
 use Rattle.model.specs.Pairing.{alone}
 use Rattle.model.specs.Packets.{Contact, contacts_good, packets_of}
 use Rattle.model.specs.Anonymous.{contact_numbers, row_at, frame_of, few_enough, anonymous_verdict, anonymous_frame, anonymous_call, anonymous_buffer}

@@ -1,5 +1,6 @@
 // Writes the type A frame of an anonymous panel as type B events (document 02's K12): reads its contacts, pairs them with those of the writer's table, and hands the frame that this makes to the writer.
 #![tactic(auto)]
+
 ghost use Rattle.std.specs.Prelude.{◌≡◌, ◌++◌, map, ◌≤◌, ◌-◌, ◌*◌, pos, length, take, replicate};
 ghost use Rattle.model.specs.Panel.{base, per_slot, records};
 ghost use Rattle.model.specs.Shift.{flat};

@@ -2,6 +2,7 @@
 // lent slice. Called by programs and by a host; `write`, `read` and `size_of` are the public functions, none requires anything, and what they
 // answer is the model's.
 #![tactic(auto)]
+
 ghost use Rattle.std.specs.Prelude.{◌≡◌, ◌∷◌, [], ◌≤◌, length};
 ghost use Rattle.model.specs.Calls.{room_for};
 ghost use Rattle.model.specs.Pod.{word, clock_in};

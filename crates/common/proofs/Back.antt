@@ -1,6 +1,5 @@
 -- What is seen of a verdict or a mode and held again is the same, whatever it is; and what is held is seen again. Cited by the reader, the writer and link. Assumes nothing.
 use mathlib.Core.Path.{◌≡◌, refl, ap}
-use Prim.Native.Nat.{ℕ}
 use Rattle.model.specs.Reader as R
 use Rattle.model.specs.Calls as C
 use Rattle.common.specs.declared.Verdict.{Verdict}

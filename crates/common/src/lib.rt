@@ -1,5 +1,6 @@
 // What has no shape, whatever a slot holds and a table counts: the kinds of number, a refusal's name, a reader's mode and how it goes on once track is lost. All other crates stand on it.
 #![tactic(auto)]
+
 ghost use Rattle.std.specs.Prelude.{◌≡◌, ◌≤◌, ◌-◌, ◌*◌, ◌/◌, pos, length};
 ghost use Rattle.model.specs.Numbers.{eq_z, between as between_n, between_z};
 ghost use Rattle.model.specs.Panel.{id_field};

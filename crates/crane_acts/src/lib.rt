@@ -1,5 +1,6 @@
 // What a record asks of a crane's reader: the one place where its code knows event codes and ranges. A size's code, 0x30 or 0x31, is unknown here. The cranes' loop stands on it.
 #![tactic(auto)]
+
 ghost use Rattle.std.specs.Prelude.{◌≡◌, true, cond, ◌≤◌};
 ghost use Rattle.model.specs.Panel.{crane, setup_good, id_field, crane_records, slot_code};
 ghost use Rattle.model.specs.Table.{fits};

@@ -1,5 +1,6 @@
 // A crane's run over records: the loop of a reader that follows, which changes its tables in place, and how a run ends once track is lost. The calls of the cranes' reader stand on it.
 #![tactic(auto)]
+
 ghost use Rattle.std.specs.Prelude.{◌≡◌, true, ◌<◌, ◌≤◌, ◌+◌, ◌-◌, ◌*◌, ◌/◌, ◌^◌, length};
 ghost use Rattle.model.specs.Panel.{crane, setup_good};
 ghost use Rattle.model.specs.Records.{events_from, events_of};

@@ -1,5 +1,6 @@
 // The image of a crane's load: four signed numbers for each slot, judged and made a table. The cranes' `load` stands on it.
 #![tactic(auto)]
+
 ghost use Rattle.std.specs.Prelude.{◌≡◌, ◌∷◌, [], ◌≤◌, ◌*◌, length};
 ghost use Rattle.model.specs.Panel.{crane_per_slot, crane_records};
 ghost use Rattle.model.specs.Table.{good_slot, good_records};

@@ -1,5 +1,6 @@
 // The cranes' panel: sixteen slots of four numbers, for good, and the tests of a setup, a slot and a table. The cranes' reader stands on it.
 #![tactic(auto)]
+
 ghost use Rattle.std.specs.Prelude.{◌≡◌, ◌∷◌, [], ◌≤◌, take, drop};
 ghost use Rattle.model.specs.Panel.{crane, setup_good, crane_records};
 ghost use Rattle.model.specs.Table.{ids, unheld, good_slot, eq_slot, eq_table, ids_differ as ids_apart, good_records};

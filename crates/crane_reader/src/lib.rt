@@ -1,5 +1,6 @@
 // The cranes' type B reader: from event records to a contact table of four numbers a slot and sixteen slots, for good. A crane calls ReaderState::fresh, run, read_one, load and ask.
 #![tactic(auto)]
+
 ghost use Rattle.std.specs.Prelude.{◌≡◌, true, [], ◌<◌, ◌≤◌, ◌*◌, length, get_or};
 ghost use Rattle.model.specs.Panel.{crane, crane_per_slot, crane_records};
 ghost use Rattle.model.specs.Records.{events_of};

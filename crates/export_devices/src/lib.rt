@@ -1,5 +1,6 @@
 // The pod, the force stick and the recorder for C hosts: include/chandrulek.h's functions, each the call of `lent_pod` or `lent_devices` of that name.
 #![tactic(auto)]
+
 ghost use Rattle.lent_pod.specs.Pods.{PodFresh, PodStepped};
 ghost use Rattle.lent_pod.specs.Orders.{CommandWritten, CommandRead};
 ghost use Rattle.lent_devices.specs.Blocks.{BlockMade, BlocksLaid, BlockRead};

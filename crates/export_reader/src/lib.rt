@@ -1,5 +1,6 @@
 // The readers for C hosts: include/chandrulek.h's functions, each the call of `lent_reader` or `lent_line` of that name.
 #![tactic(auto)]
+
 ghost use Rattle.lent_reader.specs.Seen.{FreshIn, RunIn, LoadIn, AskIn};
 ghost use Rattle.lent_line.specs.Seen.{FreshIn as LineFreshIn, TakeIn, LoadIn as LineLoadIn, AskIn as LineAskIn};
 

@@ -1,5 +1,6 @@
 // The writer for C hosts: include/chandrulek.h's functions, each the call of `lent_writer` of that name. An archive has the functions of one crate, and the compiler joins a call with the code that alone calls it: so the writer's, the readers' and the devices' stand in a crate each.
 #![tactic(auto)]
+
 ghost use Rattle.lent_writer.specs.Seen.{Freshens, WritesFrame, WritesAnonymous};
 
 #[unsafe(no_mangle)]

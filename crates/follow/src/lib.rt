@@ -1,5 +1,6 @@
 // A run over records: the loop of a reader that follows, which changes its tables in place, and the end once track is lost. The reader's calls stand on it.
 #![tactic(auto)]
+
 ghost use Rattle.std.specs.Prelude.{◌≡◌, true, ◌<◌, ◌≤◌, ◌+◌, ◌/◌, length};
 ghost use Rattle.model.specs.Panel.{base, setup_good};
 ghost use Rattle.model.specs.Records.{events_of};

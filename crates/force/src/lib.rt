@@ -2,6 +2,7 @@
 // by programs and by a host; `read` and `write` are the calls, neither requires anything, and what they answer is the model's. `join`, `word_of`
 // and `signed_byte` are for a program that has a report's bytes in another order.
 #![tactic(auto)]
+
 ghost use Rattle.std.specs.Prelude.{◌≡◌, true, ◌&&◌, ◌≤◌, eqb, length};
 ghost use Rattle.model.specs.Records.{join16};
 ghost use Rattle.model.specs.Calls.{room_for};

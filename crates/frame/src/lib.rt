@@ -1,5 +1,6 @@
 // A frame's row: whether its kind is known and the numbers of a contact are in their ranges. The plan stands on it.
 #![tactic(auto)]
+
 ghost use Rattle.std.specs.Prelude.{◌≡◌, ◌<◌, pos};
 ghost use Rattle.model.specs.Numbers.{between_z};
 ghost use Rattle.model.specs.Table.{numbers_of};

@@ -1,5 +1,6 @@
 // A load's image: a slot's numbers for each slot, signed, judged and made a table. The reader's `load` stands on it.
 #![tactic(auto)]
+
 ghost use Rattle.std.specs.Prelude.{◌≡◌, ◌≤◌, ◌*◌, length};
 ghost use Rattle.model.specs.Panel.{per_slot, records};
 ghost use Rattle.model.specs.Table.{good_slot, good_records};

@@ -1,5 +1,6 @@
 // Slots, setups and tables in bytes that a host lends: read from a position on, or stored there. The states of `export` are made of them.
 #![tactic(auto)]
+
 ghost use Rattle.std.specs.Prelude.{◌≡◌, ◌+◌, ◌<◌, ◌≤◌, ◌^◌, length};
 ghost use Rattle.model.specs.Panel.{records};
 ghost use Rattle.model.specs.Records.{low_bytes, lay};

@@ -1,6 +1,7 @@
 // The shift recorder and the force stick for a host that lends its buffers and has every answer as numbers. The public functions require nothing;
 // what they answer is the library's. Called by `export`.
 #![tactic(auto)]
+
 ghost use Rattle.std.specs.Prelude.{◌≡◌, true, cond, eqb, length};
 ghost use Rattle.model.specs.Force.{fits_in, word_values, byte_values, report as a_report};
 ghost use Rattle.common.specs.Seen.{natural, verdict_number};

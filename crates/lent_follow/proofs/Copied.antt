@@ -1,5 +1,5 @@
 -- One of two tables in lent bytes copied over the other, byte by byte: the start, a turn, and the end. Cited by the proofs of `take_back` and `show_all`. Assumes nothing.
-use mathlib.Core.Path.{◌≡◌, refl, sym, ap, ◌∙◌}
+use mathlib.Core.Path.{◌≡◌, refl, ◌∙◌}
 use mathlib.Core.Bool.{Bool, true, false}
 use mathlib.Core.List.{List}
 use Prim.Native.Nat.{ℕ, ◌+◌, ◌≤◌, ◌<◌}

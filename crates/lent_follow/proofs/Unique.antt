@@ -1,11 +1,9 @@
 -- The promise of a run in place leaves no choice: each law is of the contract itself. With `both_same` of `Back`, the two tables fix every byte that it leaves. Assumes nothing.
-use mathlib.Core.Path.{◌≡◌, sym, ap, ◌∙◌}
-use mathlib.Core.List.{List}
-use Prim.Native.Nat.{ℕ}
+use mathlib.Core.Path.{sym, ap, ◌∙◌}
 use Rattle.model.specs.Unique.{OneAnswer, OneLeft}
 use Rattle.follow.specs.declared.Ended.{Ended}
 use Rattle.lent_follow.specs.declared.EndedIn.{EndedIn}
-use Rattle.lent_follow.specs.InPlace.{shown_in, pending_in, with_tables}
+use Rattle.lent_follow.specs.InPlace.{shown_in, pending_in}
 use Rattle.lent_follow.proofs.follow.Reads as follow
 
 -- The answer is what an end has beside its tables.

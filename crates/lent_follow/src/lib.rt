@@ -1,5 +1,6 @@
 // A run over records on a reader's two tables where they lie in lent bytes, the shown one first and the pending one behind it: `follow` in place. The reader over lent states stands on it.
 #![tactic(auto)]
+
 ghost use Rattle.std.specs.Prelude.{◌≡◌, true, ◌<◌, ◌≤◌, ◌+◌, ◌/◌, length, get_or, set};
 ghost use Rattle.model.specs.Panel.{base, setup_good, records};
 ghost use Rattle.model.specs.Table.{ids_differ};

@@ -1,5 +1,6 @@
 // The line's reader over state bytes that a host lends and that are changed in place: line_fresh, take, line_load and line_ask. Each answers document 01's number of a refusal, 0 for none.
 #![tactic(auto)]
+
 ghost use Rattle.std.specs.Prelude.{◌≡◌, ◌++◌, ◌<◌, ◌^◌, length, take as first, drop};
 ghost use Rattle.model.specs.Pieces.{places};
 ghost use Rattle.model.specs.Records.{lay};

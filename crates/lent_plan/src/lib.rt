@@ -1,5 +1,6 @@
 // The table and the counter that a frame makes, and what it changes, in bytes that hold a copy of the state's table: from one row that does not leave its slot as it is to the next, with each slot stored where it lies. The lent writer stands on it.
 #![tactic(auto)]
+
 ghost use Rattle.std.specs.Prelude.{◌≡◌, ◌*◌, ◌<◌, ◌≤◌, length, take, set};
 ghost use Rattle.model.specs.Panel.{per_slot, records};
 ghost use Rattle.model.specs.Table.{ids};

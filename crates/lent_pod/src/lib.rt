@@ -1,6 +1,7 @@
 // The pod, and the commands to it, for a host that lends the pod's state as bytes and has every answer as numbers. The public functions require
 // nothing; each answers document 01's number, 0 for accepted, and what it leaves is the library's answer. Called by `export`.
 #![tactic(auto)]
+
 ghost use Rattle.std.specs.Prelude.{◌≡◌, ◌∷◌, [], ◌<◌, pos, length};
 ghost use Rattle.model.specs.Pod.{relative, time_of_day, both_sticks, one_stick};
 ghost use Rattle.model.specs.Commands.{buttons, absolute, threshold, scale, load, set_clock};

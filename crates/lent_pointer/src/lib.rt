@@ -1,5 +1,6 @@
 // What an old display is told of tables that lie in lent bytes (document 02's K6): `pointer`'s tests and ranks, over ids that are read where they lie. The writer over lent bytes stands on it.
 #![tactic(auto)]
+
 ghost use Rattle.std.specs.Prelude.{◌≡◌, true, length};
 ghost use Rattle.model.specs.Panel.{records};
 ghost use Rattle.model.specs.Table.{ids as ids_in};

@@ -18,7 +18,6 @@ use Rattle.model.proofs.Bools.{holds}
 use Rattle.model.proofs.Bytes.{events-length}
 use Rattle.model.proofs.Answers.{run-bad-state, run_ragged, run-whole}
 use Rattle.model.proofs.Calls.{events_steady, reader-state}
-use Rattle.records.specs.Seen.{word_at}
 use Rattle.records.proofs.Over.{lay-length}
 use Rattle.common.specs.declared.Mode.{Mode}
 use Rattle.common.specs.declared.Mode.TheVariants.{Following}
@@ -37,13 +36,13 @@ use Rattle.follow.specs.Runs.{ended_from, lost_at}
 use Rattle.reader.specs.declared.ReaderState.{ReaderState}
 use Rattle.reader.specs.States.{seen, held, accepted}
 use Rattle.reader.proofs.States.{good-setup, good-small, good-current, good-rest, good-settled, follow-run, lost_run}
-use Rattle.lent.specs.Lent.{slot_size, slots_from, setup_in, Bytes}
+use Rattle.lent.specs.Lent.{slots_from, setup_in, Bytes}
 use Rattle.lent.proofs.Slots.{word_back, setup-kept-before, setup-kept-after}
 use Rattle.lent.proofs.Tables.{slots_same, slots-after}
 use Rattle.lent_follow.specs.InPlace.{both_size, shown_in, pending_in}
 use Rattle.lent_reader.specs.Layout.{reader_kind, current_at, setup_at, shown_at, pending_at, head_size, body_size, reader_size, formed, unpacked, head_bytes, body_bytes, packed}
 use Rattle.lent_reader.specs.Seen.{counts_row, stored, RunIn}
-use Rattle.lent_reader.specs.Runs.{ran_on, EndsIn}
+use Rattle.lent_reader.specs.Runs.{EndsIn}
 use Rattle.lent_reader.proofs.Back.{body_again}
 use Rattle.lent_reader.proofs.Calls.{run_in}
 

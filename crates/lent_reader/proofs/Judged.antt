@@ -1,6 +1,6 @@
 -- The tests of a state where it lies: the shown table by itself, what lies elsewhere, and two tables compared byte by byte. Cited by the proofs of `tables_same`, `tables_ok` and `state_ok`. Assumes nothing.
 use mathlib.Core.Path.{◌≡◌, refl, sym, ap, ap₂, ◌∙◌}
-use mathlib.Core.Bool.{Bool, true, false, ◌&&◌, false≢true}
+use mathlib.Core.Bool.{Bool, true, false, ◌&&◌}
 use mathlib.Core.List.{List}
 use Prim.Native.Nat.{ℕ, zero, suc, ◌+◌, ◌≤◌, ◌<◌}
 use native.Mathlib.Omega.{arith}

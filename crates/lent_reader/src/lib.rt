@@ -1,5 +1,6 @@
 // The reader over state bytes that a host lends and that are changed in place: reader_fresh, run, load and ask. Each answers document 01's number of a refusal, 0 for none.
 #![tactic(auto)]
+
 ghost use Rattle.std.specs.Prelude.{◌≡◌, true, ◌++◌, ◌<◌, ◌≤◌, ◌^◌, length};
 ghost use Rattle.model.specs.Panel.{base, records};
 ghost use Rattle.model.specs.Table.{eq_table};

@@ -1,5 +1,6 @@
 // A frame's contact events from two tables that lie in lent bytes, and the changed slots kept. The writer over lent states stands on it.
 #![tactic(auto)]
+
 ghost use Rattle.std.specs.Prelude.{◌≡◌, ◌+◌, ◌<◌, ◌≤◌, length};
 ghost use Rattle.model.specs.Panel.{records};
 ghost use Rattle.model.specs.Sending.{changed_mask};

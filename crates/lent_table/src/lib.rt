@@ -1,5 +1,6 @@
 // A table that lies in lent bytes: whether it is as a state's should be, and which row of a frame is the next that does not leave its slot as it is. The table stays where it lies: a slot is read as it is looked at. The writer over lent bytes stands on it.
 #![tactic(auto)]
+
 ghost use Rattle.std.specs.Prelude.{◌≡◌, ◌&&◌, ◌*◌, ◌<◌, ◌≤◌, length, drop, get_or};
 ghost use Rattle.model.specs.Panel.{per_slot, records};
 ghost use Rattle.model.specs.Table.{eq_table, ids_differ as ids_apart, good_records};

@@ -1,5 +1,6 @@
 // The writer over state bytes that a host lends, changed in place: a fresh state, a frame, and a type A frame of an anonymous panel.
 #![tactic(auto)]
+
 ghost use Rattle.std.specs.Prelude.{◌≡◌, ◌&&◌, [], ◌∷◌, ◌+◌, ◌<◌, ◌≤◌, ◌^◌, length};
 ghost use Rattle.model.specs.Panel.{base, records};
 ghost use Rattle.model.specs.Records.{lay, join16};

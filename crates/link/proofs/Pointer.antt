@@ -3,7 +3,7 @@
 use mathlib.Core.Path.{◌≡◌, refl, sym, ap, ap₂, ◌∙◌, subst}
 use mathlib.Core.Bool.{Bool, true, false, not}
 use mathlib.Core.List.{List, [], ◌∷◌, ◌++◌}
-use Prim.Native.Nat.{ℕ, zero, ◌*◌, ◌%◌, ◌≤◌, ◌<◌}
+use Prim.Native.Nat.{ℕ, ◌*◌, ◌%◌, ◌≤◌, ◌<◌}
 use native.Mathlib.Omega.{arith}
 use lib.Dec.{T}
 use lib.IntN.{ℤ}
@@ -42,7 +42,6 @@ use Rattle.model.proofs.PointerNone.{none-counted}
 use Rattle.model.proofs.PointerPlain.{plain-accepted}
 use Rattle.model.proofs.Off as Off
 use Rattle.common.specs.declared.Verdict.TheVariants.{Accepted, State}
-use Rattle.common.specs.declared.Counts.{Counts}
 use Rattle.common.specs.declared.Mode.TheVariants.{Following}
 use Rattle.common.specs.Seen.{verdict_from, mode_of, counts_of, counts_from}
 use Rattle.common.proofs.Back.{counts-seen}

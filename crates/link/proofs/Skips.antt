@@ -1,14 +1,13 @@
 -- What the promises of `run` and `read_one` tell of skipped events, for every answer that they allow: the counts by the events' numbers, and the
 -- first one (K4). Cited by docs/PROMISES.md. Assumes nothing.
 use mathlib.Core.Path.{◌≡◌, refl, sym, ap, ◌∙◌, subst}
-use mathlib.Core.Bool.{true, false}
 use mathlib.Core.List.{List, [], ◌∷◌}
 use Prim.Native.Nat.{ℕ, ◌%◌}
 use lib.ListN.{length}
 use borrow.Author.Tests.{eq-eqb}
 use Rattle.model.specs.Panel.{base}
 use Rattle.model.specs.Records.{events_of}
-use Rattle.model.specs.Reader.{Counts, nothing, run}
+use Rattle.model.specs.Reader.{nothing, run}
 use Rattle.model.specs.Skips.{SkipsTold}
 use Rattle.model.specs.States.{reader_good}
 use Rattle.model.specs.Calls as C
@@ -24,7 +23,7 @@ use Rattle.records.specs.declared.Event.{Event}
 use Rattle.records.specs.Seen.{event_of}
 use Rattle.reader.specs.declared.ReaderState.{ReaderState}
 use Rattle.reader.specs.declared.RunAnswer.{RunAnswer}
-use Rattle.reader.specs.States.{seen, ran_from}
+use Rattle.reader.specs.States.{seen}
 use Rattle.link.specs.Promises.{Ran, ReadOne, GoodReader}
 
 -- A run over whole records of a well-formed state, any events and any mode.

@@ -1,6 +1,6 @@
 -- The promises of the calls as claims of what is handed in and what is answered: each is its contract's own equation, which proofs/Contracts
 -- checks. The demands are said of them. Assumes nothing.
-use Rattle.std.specs.Prelude.{◌≡◌, Bool, true, List, ℕ, ◌+◌, ◌<◌, ℤ, length}
+use Rattle.std.specs.Prelude.{◌≡◌, Bool, true, List, ℕ, ◌<◌, ℤ, length}
 use Rattle.model.specs.Panel.{base}
 use Rattle.model.specs.Records.{record_bytes}
 use Rattle.model.specs.Reader.{Lost, plus}

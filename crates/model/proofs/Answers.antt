@@ -7,7 +7,6 @@ use lib.Dec.{eqb, ltb}
 use lib.IntN.{ℤ}
 use lib.ListN.{length, get_or}
 -- Brought in so that it is checked first: refusals that change places then fail at the law that says when each is given.
-use Rattle.model.proofs.Exact
 use Rattle.model.specs.Panel.{Layout, Setup, setup_good, panel_of}
 use Rattle.model.specs.Events.{Event}
 use Rattle.model.specs.Records.{events_of}

@@ -8,7 +8,6 @@ use native.Mathlib.Omega.{arith}
 use lib.Dec.{T, ltb, ltb→lt, nltb→le}
 use lib.IntN.{ℤ}
 use lib.ListN.{length, get_or, replicate, length-replicate}
-use Rattle.model.proofs.Bools.{both}
 use Rattle.model.proofs.WriterSteady.{length_rows}
 use Rattle.model.proofs.Ids.{fated}
 use Rattle.model.proofs.Ranks.{Goes, goes, length-fates}

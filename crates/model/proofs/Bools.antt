@@ -7,8 +7,8 @@ use lib.Dec.{T, eqb→eq, eqb_refl, not_T}
 use lib.IntN.{ℤ, pos, negsuc}
 use mir.Val.{sel}
 use Rattle.model.specs.Numbers.{eq_z}
+
 -- Brought in so that the sheet is checked before any law: a wrong definition then fails at a row of it, by computing.
-use Rattle.model.proofs.Bench
 
 -- ---- a test and its value
 

@@ -15,7 +15,6 @@ use Rattle.model.specs.Commands.{Kind, reset_kind, buttons_kind, relative_kind, 
 use Rattle.model.specs.Commands.{set_clock_kind, ask_clock_kind, other_kind, kind_of, length_of}
 use Rattle.model.specs.Commands.{Answer, command, lost, refused, unfinished, nothing, waits, Read, judged, read_by, command_in, moved_by, read_at}
 use Rattle.model.specs.Commands.{reads_by, reads, ends_waiting}
-use Rattle.model.proofs.CommandSheet
 
 -- ---- whole commands
 

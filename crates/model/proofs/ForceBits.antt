@@ -13,8 +13,8 @@ use lib.ListN.{length, get_or, set}
 use borrow.Author.Tests.{lt-ltb, le-ltb, le-leb, leb-true, ltb-true, ltb-false}
 use Rattle.model.specs.Force.{xor_after, check_of, signed_in, bits_in, fits_in, most_buttons, upper_buttons, hat_of, shared_byte}
 use Rattle.model.proofs.Bools.{and_left}
+
 -- Brought in so that the sheet is checked first, as ForcePackets does.
-use Rattle.model.proofs.ForceSheet
 
 -- ---- exclusive or
 

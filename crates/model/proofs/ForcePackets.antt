@@ -11,8 +11,8 @@ use lib.Seq.{take-append-le, drop-append-le}
 use borrow.Author.Tests.{ltb-true, ltb-false, lt-ltb, le-ltb}
 use Rattle.model.specs.Force.{most_data, head_bytes, packet_bytes, stick_op, stick_data, Answer, report, not_for_us, length_over, wrong_check, waits, refuses}
 use Rattle.model.specs.Force.{Read, op_in, len_in, data_in, judged_by, staying, refusing, passing, report_of, contents, good_check, checked, packet_in}
+
 -- Brought in so that the sheet is checked before any law on packets: a wrong definition then fails at a row of it, by computing.
-use Rattle.model.proofs.ForceSheet
 
 -- ---- the bytes that it takes to answer
 

@@ -6,14 +6,13 @@ use native.Mathlib.Omega.{arith}
 use lib.Dec.{T}
 use lib.IntN.{ℤ}
 use lib.ListN.{length}
-use Rattle.model.proofs.Calls.{frame_limit, frame-reads_back}
+use Rattle.model.proofs.Calls.{frame_limit}
 use Rattle.model.proofs.Narrow.{short-setup, narrow_fresh}
-use Rattle.model.specs.Panel.{Layout, Setup, setup_good, good_layout, panel_of, base, crane_records, crane}
-use Rattle.model.specs.Records.{bytes_of, events_of}
+use Rattle.model.specs.Panel.{Setup, setup_good, good_layout, panel_of, base, crane_records, crane}
+use Rattle.model.specs.Records.{events_of}
 use Rattle.model.specs.Frame.{values_good}
-use Rattle.model.specs.Reader.{follow, read}
 use Rattle.model.specs.States.{WriterState, writer_good}
-use Rattle.model.specs.Calls.{fresh_writer_call, fresh_reader_call, writer_after, frame_events, most_events, run_call}
+use Rattle.model.specs.Calls.{fresh_writer_call, fresh_reader_call, frame_events, most_events, run_call}
 use Rattle.model.specs.Shift.{FrameCall, wrote_all, written_all}
 use Rattle.model.specs.Narrow.{crane_setup, Shorter, short_ran}
 

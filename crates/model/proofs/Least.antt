@@ -15,7 +15,7 @@ use Rattle.model.specs.Panel.{Panel}
 use Rattle.model.specs.Table.{Slot, Table, ids_differ}
 use Rattle.model.specs.Events.{Event, Act, skip, bad, report, loss, slot, number, classify}
 use Rattle.model.specs.Reader.{following, follow, reported, on_slot, steps, read}
-use Rattle.model.specs.Sending.{events_sent, same_slot, changed_in, changed_numbers, changed_slots, changed_others, fewest}
+use Rattle.model.specs.Sending.{events_sent, same_slot, changed_in, changed_numbers, changed_others, fewest}
 
 -- ---- what one act can do
 

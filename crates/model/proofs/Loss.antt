@@ -1,7 +1,7 @@
 -- A reported loss is not forgotten: SYN_DROPPED, a bad value and a report of repeated ids each take a reader off the track, whatever was
 -- read before and comes after. Cited by Chain. Assumes nothing.
 use mathlib.Core.Path.{◌≡◌, refl, sym, ap, subst}
-use mathlib.Core.Bool.{Bool, true, false, not, ◌&&◌, ◌||◌, cond}
+use mathlib.Core.Bool.{Bool, true, false, not, ◌&&◌, ◌||◌}
 use mathlib.Core.List.{List, [], ◌∷◌, ◌++◌}
 use Prim.Native.Nat.{ℕ}
 use lib.Dec.{T, eqb, eqb→eq}
@@ -13,7 +13,7 @@ use Rattle.model.proofs.Lost.{lost_by_loss, lost_by_bad, lost_by_report, lost_re
 use Rattle.model.proofs.Cut.{read_append}
 use Rattle.model.specs.Panel.{Field, Panel, slot_code, unlisted, codes_differ, field_codes, tellable}
 use Rattle.model.specs.Table.{fits}
-use Rattle.model.specs.Events.{Event, Act, bad, report, loss, later, number_act, slot_act, syn_act, classify, number}
+use Rattle.model.specs.Events.{Event, Act, bad, report, loss, later, number_act, slot_act, syn_act, classify}
 use Rattle.model.specs.Reader.{Lost, Reader, step, read}
 use Rattle.model.specs.Loss.{is_dropped, is_report, slot_fits, bad_number, bad_value, loses_track}
 

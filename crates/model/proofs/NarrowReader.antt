@@ -10,7 +10,6 @@ use lib.IntN.{ℤ, pos, negsuc}
 use lib.ListN.{set, take, length-map}
 use lib.Seq.{length-take-le, take-set-lt, take-set-le}
 -- Brought in so that it is checked first: a table that is cut wrongly then fails at the contact computed there.
-use Rattle.model.proofs.Cranes
 use Rattle.model.proofs.Bools.{is_true, both, both_left, both_right}
 use Rattle.model.proofs.Tables.{eq_slot→eq, eq_slot_self, eq_table→eq, eq_table_self, place, places, good_length, good-records, good-table, on_slot-id}
 use Rattle.model.proofs.ReaderSteady.{SteadyReader, fit, step_steady}

@@ -8,7 +8,7 @@ use native.Mathlib.Nat.{suc-mul, pow-suc, mul_assoc, mul_comm}
 use lib.Dec.{T, eqb}
 use lib.Count.{ones, ones_step}
 use lib.ListN.{length, get_or, set}
-use Rattle.model.proofs.Bools.{is_true, both_right, eq_z-refl}
+use Rattle.model.proofs.Bools.{both_right}
 use Rattle.model.proofs.Tables.{same-past, place, good-records}
 use Rattle.model.proofs.Count.{one_unless_le, same_none, changed_in_self, same_slot_self, event-count}
 use Rattle.model.specs.Numbers.{eq_z}

@@ -17,7 +17,6 @@ use Rattle.model.proofs.Cut.{events_append}
 use Rattle.model.proofs.Chain.{run-cut}
 use Rattle.model.proofs.Places.{zeros-replicate, clear_places}
 -- Brought in so that the cases are checked before the laws: a wrong definition fails there, by computing.
-use Rattle.model.proofs.PiecesCases
 use Rattle.model.specs.Panel.{Layout}
 use Rattle.model.specs.Records.{events_from, events_of}
 use Rattle.model.specs.Reader.{nothing, plus, run}

@@ -9,7 +9,6 @@ use lib.IntN.{ℤ, pos, negsuc}
 use Rattle.model.proofs.Bools.{both_left, both_right}
 use Rattle.model.proofs.Bytes.{signed32, Carried, AllCarried, frame-carried}
 use Rattle.model.proofs.Layouts.{panel-tellable}
-use Rattle.model.proofs.Exact.{carries}
 use Rattle.model.proofs.Calls.{writer-state}
 use Rattle.model.proofs.Emulated.{contact-ended}
 use Rattle.model.proofs.Pointing.{on_facts, off_only, pointer_facts, touched_by}

@@ -17,7 +17,7 @@ use Rattle.model.proofs.PointerCalls.{pointer_accepted, pointer-taken, pointer-r
 use Rattle.model.specs.Panel.{Layout, panel_of, good_layout}
 use Rattle.model.specs.Events.{Event}
 use Rattle.model.specs.Frame.{sized, values_good}
-use Rattle.model.specs.States.{WriterState, writer_good}
+use Rattle.model.specs.States.{writer_good}
 use Rattle.model.specs.Calls.{is_accepted, frame_events, need_of, room_for, write_verdict, Written}
 use Rattle.model.specs.Shift.{FrameCall, wrote, wrote_all, sent, sent_all}
 use Rattle.model.specs.Pointing.{PointerState, pointer_good, pointer_need, pointer_verdict, PointerWritten}

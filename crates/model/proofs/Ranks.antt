@@ -13,8 +13,8 @@ use Rattle.model.specs.Numbers.{eq_z}
 use Rattle.model.specs.Table.{Table, id_of, live, ids}
 use Rattle.model.specs.Frame.{kind_of, Fate, none, goes_on, begins, fate, free_id, next, planned}
 use Rattle.model.specs.Ranks.{among, one_more_if, held_below, full, no_gaps, live_ranks, zero_unused, good_ranks, above, fates, ages, rerank, ranks_after}
+
 -- Brought in so that the sheet is checked before any law: a wrong definition then fails at a row of it, by computing.
-use Rattle.model.proofs.PointerSheet
 
 pub eqb_self : (n : ℕ) → eqb n n ≡ true
 eqb_self n = is_true (eqb n n) (eqb_refl n)

@@ -5,12 +5,12 @@ use mathlib.Core.Bool.{Bool, true, false, not, cond, ◌&&◌, ◌||◌, or-true
 use mathlib.Core.List.{List, [], ◌∷◌}
 use Prim.Native.Nat.{ℕ, zero, suc, ◌≤◌, ◌<◌}
 use native.Mathlib.Omega.{arith}
-use lib.Dec.{T, ltb, eqb, eqb→eq, ltb→lt, nltb→le, T_not}
+use lib.Dec.{T, ltb, eqb, eqb→eq, ltb→lt, nltb→le}
 use lib.IntN.{ℤ}
 use lib.ListN.{length, get_or, set, replicate, length-set}
 use lib.Seq.{get_or-set_same, get_or-set_other}
 use borrow.Author.Tests.{ne_eqb, eqb-false}
-use Rattle.model.proofs.Bools.{is_true, is_false, both, both_left, both_right}
+use Rattle.model.proofs.Bools.{is_false, both, both_right}
 use Rattle.model.proofs.Ranks.{eqb_self, or_right}
 use Rattle.model.proofs.RanksOrder.{above_all, rank_at}
 use Rattle.model.proofs.RanksOldest.{no_gaps_at}

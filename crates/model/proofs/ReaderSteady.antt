@@ -8,7 +8,6 @@ use lib.Dec.{T, ltb, eqb, lt→ltb, ltb→lt}
 use lib.IntN.{ℤ, pos, negsuc}
 use lib.ListN.{set}
 -- Brought in so that it is checked first: a reader that does not heed a loss then fails at the theorem on it, and not at a step of a proof here.
-use Rattle.model.proofs.Loss
 use Rattle.model.proofs.Bools.{both, both_left, both_right}
 use Rattle.model.proofs.Tables.{eq_table→eq, eq_table_self, good_length, good-records, good-table, length-on_slot}
 use Rattle.model.proofs.Codes.{good_at}

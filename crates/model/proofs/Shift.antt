@@ -9,7 +9,6 @@ use lib.Dec.{T}
 use lib.ListN.{length, take, drop, length-append}
 use borrow.Author.Tests.{eq-eqb}
 -- Brought in so that it is checked first: a shift that is said wrongly then fails at the shift computed there, and not at a step of a proof here.
-use Rattle.model.proofs.Cranes
 use Rattle.model.proofs.Bools.{is_true}
 use Rattle.model.proofs.Tables.{good-records}
 use Rattle.model.proofs.Follow.{asks}

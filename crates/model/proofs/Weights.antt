@@ -9,8 +9,8 @@ use native.Mathlib.Omega.{arith}
 use lib.ListN.{length, get_or, take, set, length-set, length-take}
 use lib.Seq.{get_or-set_other}
 use Rattle.model.specs.Recorder.{AllBytes, weighed, check_of, check_place, number_limit}
+
 -- Brought in so that the worked cases are checked before any law: a wrong definition then fails at a row of them, by computing.
-use Rattle.model.proofs.Recorded
 
 -- ---- how it grows
 

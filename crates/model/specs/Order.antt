@@ -1,5 +1,5 @@
 -- Which slots a changed-slot number names, in the order of sending. Cited by the laws Order and by the writer's crates. Assumes nothing.
-use Rattle.std.specs.Prelude.{List, [], ◌∷◌, ◌++◌, ℕ, zero, suc, ◌/◌, ◌%◌}
+use Rattle.std.specs.Prelude.{List, [], ◌++◌, ℕ, zero, suc, ◌/◌, ◌%◌}
 
 -- The list, if its slot's bit is set.
 abbrev pub if_bit {ℓ} : {A : Type ℓ} → ℕ → List A → List A

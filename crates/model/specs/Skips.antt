@@ -1,8 +1,8 @@
 -- What was skipped, told by the numbers of the events and not by what they ask: the theorems on the counts of skipped events speak of it. Assumes nothing.
-use Rattle.std.specs.Prelude.{◌≡◌, Bool, true, false, not, cond, ◌&&◌, ◌||◌, List, [], ◌∷◌, ◌++◌, ℕ, ◌+◌, eqb}
+use Rattle.std.specs.Prelude.{◌≡◌, Bool, true, not, cond, ◌&&◌, ◌||◌, List, [], ◌∷◌, ◌++◌, ℕ, ◌+◌, eqb}
 use Rattle.model.specs.Panel.{Panel, slot_code, unlisted, field_codes}
 use Rattle.model.specs.Events.{Event, Act, skip, bad, report, loss, slot, number, of_code, classify}
-use Rattle.model.specs.Reader.{Mode, following, dropped, stale, Reader, step, read, Skipped, none, event, Counts}
+use Rattle.model.specs.Reader.{Mode, following, dropped, stale, Reader, step, read, none, event, Counts}
 
 -- Types 0 and 3 are known.
 abbrev pub known_type : Event → Bool

@@ -1,5 +1,6 @@
 // What a type A frame of an anonymous panel tells (document 02's K12): its contacts, whether it is finished, and whether a panel can take their numbers.
 #![tactic(auto)]
+
 ghost use Rattle.std.specs.Prelude.{◌≡◌, not, ◌&&◌, [], ◌∷◌, ◌<◌, ◌≤◌, ℤ};
 ghost use Rattle.model.specs.Records.{signed_of, events_of};
 ghost use Rattle.model.specs.Packets.{said, close, is_blank, is_whole, packets_of, value_of, contact_good, contacts_good};

@@ -2,6 +2,7 @@
 // frames, which has judged the numbers: `pair_up` and `place` are the calls. The sets of free new contacts are the bits of a number, and the old
 // contacts are gone through from the last: a choice is known before those that lead to it, and no pairing is looked at twice.
 #![tactic(auto)]
+
 ghost use Rattle.std.specs.Prelude.{◌≡◌, true, ◌++◌, ◌+◌, ◌-◌, ◌*◌, ◌^◌, ◌<◌, ◌≤◌, get_or, length, replicate};
 ghost use Rattle.model.specs.Pairing.{point, points, largest, gap, distance, alone, best_pairing, left_over, placed};
 ghost use Rattle.pairing.specs.Cells.{choosable, without, value, packed, Offers, Short, Low, Turned, Chosen, Near, Numbers, marks};

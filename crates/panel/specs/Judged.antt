@@ -1,5 +1,5 @@
 -- What the walk over a state's table tells. Assumes nothing.
-use Rattle.std.specs.Prelude.{◌≡◌, Bool, true, List}
+use Rattle.std.specs.Prelude.{◌≡◌, true, List}
 use Rattle.model.specs.Table.{good_records, ids_differ}
 use Rattle.panel.specs.declared.Slot.{Slot}
 use Rattle.panel.specs.declared.Setup.{Setup}

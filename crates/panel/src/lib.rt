@@ -1,5 +1,6 @@
 // The panel's types, and the tests of a setup, a slot and a table. The reader and the writer stand on it.
 #![tactic(auto)]
+
 ghost use Rattle.std.specs.Prelude.{◌≡◌, ◌&&◌, ◌+◌, ◌<◌, ◌≤◌, length, take, drop};
 ghost use Rattle.model.specs.Panel.{base, setup_good, per_slot, records};
 ghost use Rattle.model.specs.Table.{numbers_of, ids, unheld, good_slot, eq_slot, eq_table, ids_differ as ids_apart, good_records};

@@ -1,6 +1,7 @@
 // Bytes as the line delivers them (K5): a reader that takes pieces of any size and carries the bytes of a record that is cut from one to the next.
 // Its calls stand on the reader's.
 #![tactic(auto)]
+
 ghost use Rattle.std.specs.Prelude.{◌≡◌, true, ◌++◌, ◌+◌, ◌-◌, ◌≤◌, ◌<◌, ◌^◌, length, take as first, drop};
 ghost use Rattle.std.proofs.Math.Seq.{paste};
 ghost use Rattle.model.specs.Panel.{base};

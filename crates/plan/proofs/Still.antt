@@ -1,14 +1,13 @@
 -- A row that leaves its slot as it is: it is good since the slot is, nothing begins, and the slot stays. Cited by the proofs of the walk and by the writer. Assumes nothing.
 use mathlib.Core.Path.{◌≡◌, refl, sym, ap, ap₂, subst, ◌∙◌}
-use mathlib.Core.Bool.{Bool, true, false, not, cond, ◌&&◌, ◌||◌, false≢true}
+use mathlib.Core.Bool.{Bool, true, false, not, cond, ◌&&◌, false≢true}
 use mathlib.Core.Logic.{◌⊎◌, inl, inr, ⊎_elim}
 use mathlib.Core.List.{List, [], ◌∷◌}
-use Prim.Native.Nat.{ℕ, zero, suc, ◌+◌, ◌-◌, ◌*◌, ◌<◌, ◌≤◌}
+use Prim.Native.Nat.{ℕ, zero, suc, ◌+◌, ◌-◌, ◌<◌, ◌≤◌}
 use native.Mathlib.Omega.{arith}
 use lib.Dec.{T, eqb, leb, eqb→eq, leb→le}
 use lib.IntN.{ℤ, pos, negsuc}
 use lib.ListN.{length, get_or, length-map}
-use lib.Signed.{le_z}
 use borrow.Author.Tests.{le-leb, eq-eqb, not-false}
 use mir.Syntax.{w32}
 use mir.Val.{SFits}
@@ -16,7 +15,7 @@ use Rattle.model.specs.Panel.{Field, base, setup_good, per_slot}
 use Rattle.model.specs.Numbers.{eq_z, minus_one, between_z}
 use Rattle.model.specs.Table.{Table, numbers_of, live, good_slot, good_records}
 use Rattle.model.specs.Records.{bits_of}
-use Rattle.model.specs.Frame.{numbers_from, kind_of, good_contact, good_row, Fate, none, goes_on, begins, fate, slot_after}
+use Rattle.model.specs.Frame.{numbers_from, kind_of, good_contact, good_row, goes_on, begins, fate, slot_after}
 use Rattle.model.proofs.Bools.{holds, is_true, both_left, both_right, and_left, and_right, eq_z→eq}
 use Rattle.common.specs.Seen.{natural}
 use Rattle.panel.specs.declared.Slot.{Slot}

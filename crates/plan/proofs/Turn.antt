@@ -3,7 +3,7 @@
 use mathlib.Core.Path.{◌≡◌, refl, sym, ap, ap₂, ◌∙◌}
 use mathlib.Core.Bool.{Bool, true, false, not, cond, ◌&&◌, ◌||◌}
 use mathlib.Core.List.{List, [], ◌∷◌, ◌++◌, append_assoc, map-append}
-use Prim.Native.Nat.{ℕ, suc, ◌+◌, ◌-◌, ◌*◌, ◌<◌, ◌≤◌}
+use Prim.Native.Nat.{ℕ, ◌+◌, ◌-◌, ◌*◌, ◌<◌, ◌≤◌}
 use native.Mathlib.Numerals.{add-one}
 use native.Mathlib.Omega.{arith}
 use lib.Dec.{eqb, leb, leb→le}
@@ -14,7 +14,7 @@ use lib.Signed.{le_z}
 use borrow.Author.Tests.{ne_eqb}
 use Rattle.model.specs.Panel.{Axis, base, axis_fields, per_slot}
 use Rattle.model.specs.Numbers.{eq_z, between_z}
-use Rattle.model.specs.Table.{Table, numbers_of, ids, live}
+use Rattle.model.specs.Table.{Table, numbers_of, live}
 use Rattle.model.specs.Records.{bits_of}
 use Rattle.model.specs.Frame.{numbers_from, rows_from, kind_of, good_contact, good_row, good_rows, Fate, none, goes_on, begins, fate}
 use Rattle.model.specs.Frame.{free_id, slot_after, taken_after, counter_after, Planned, after, planned}

@@ -1,5 +1,6 @@
 // The table and the counter that a frame makes, and what it changes: one walk judges each row, plans its slot and compares. A row that leaves its slot as it is is passed over. The writer stands on it.
 #![tactic(auto)]
+
 ghost use Rattle.std.specs.Prelude.{◌≡◌, ◌*◌, ◌<◌, ◌≤◌, pos, length, take};
 ghost use Rattle.model.specs.Panel.{id_count, per_slot, records};
 ghost use Rattle.model.specs.Numbers.{eq_z};

@@ -2,6 +2,7 @@
 // unfinished report and knows whether it waits for "self-test passed". Called by show_pod and by a host; `PodState::fresh` and `step` are the
 // public functions, neither requires anything, and what they answer is the model's. `well_formed` and `clock_ok` are public for `commands`.
 #![tactic(auto)]
+
 ghost use Rattle.std.specs.Prelude.{◌≡◌, ◌∷◌, [], ◌++◌, ◌-◌, ◌≤◌, take, drop};
 ghost use Rattle.model.specs.Pod.{kind_of, amended, length_of, places, held_in, emptied, unfinished, zeros, well_formed, waits_after, relative, word, signed, good_digits, good_three, good_clock, good_stick, judged_absolute, judged_time, judged_both, judged_stick, judged, clock_in, first_of};
 ghost use Rattle.pod.specs.Seen.{kind_seen, seen, held, clock_seen, held_clock, held_stick, held_report, report_seen, fresh_state, AnswersAs};

@@ -2,11 +2,11 @@
 use mathlib.Core.Path.{◌≡◌, refl, sym, ap, ap₂, ◌∙◌, subst}
 use mathlib.Core.Bool.{Bool, true, false, not, cond, ◌&&◌, ◌||◌}
 use mathlib.Core.List.{List, [], ◌∷◌}
-use Prim.Native.Nat.{ℕ, zero, suc, ◌+◌, ◌-◌, ◌≤◌, ◌<◌}
+use Prim.Native.Nat.{ℕ, zero, suc, ◌≤◌, ◌<◌}
 use native.Mathlib.Omega.{arith}
 use lib.Dec.{T, T_not, ltb, eqb, eqb→eq, ltb→lt, nltb→le}
 use lib.ListN.{length, get_or}
-use Rattle.model.specs.Ranks.{among, full, no_gaps, above}
+use Rattle.model.specs.Ranks.{full, no_gaps, above}
 use Rattle.model.proofs.Bools.{holds}
 use Rattle.model.proofs.Ranks.{eqb_self}
 use Rattle.model.proofs.RanksMarks.{Marked, no_gaps_full}

@@ -1,5 +1,5 @@
 -- What an old display was told, as the model's pointer and back, and what becomes of a record by its ids. The contracts go through it. Assumes nothing.
-use Rattle.std.specs.Prelude.{Bool, cond, List, [], ◌∷◌, ℕ, ℤ, pos}
+use Rattle.std.specs.Prelude.{cond, List, [], ◌∷◌, ℕ, ℤ, pos}
 use Rattle.model.specs.Numbers.{eq_z}
 use Rattle.model.specs.Table.{live}
 use Rattle.model.specs.Frame.{Fate, none, goes_on, begins}

@@ -1,5 +1,6 @@
 // What an old display is told of a table (document 02's K6): ranks by beginning, the numbers of the display, and the events that tell them. The writer stands on it.
 #![tactic(auto)]
+
 ghost use Rattle.std.specs.Prelude.{◌≡◌, true, false, ◌&&◌, ◌||◌, cond, [], ◌++◌, ◌≤◌, ◌<◌, ◌-◌, suc, T, eqb, ltb, pos, length, drop, get_or};
 ghost use Rattle.model.specs.Panel.{records};
 ghost use Rattle.model.specs.Numbers.{eq_z};

@@ -1,5 +1,6 @@
 // The type B reader: from event records to a contact table. A host calls ReaderState::fresh, run, read_one, load and ask.
 #![tactic(auto)]
+
 ghost use Rattle.std.specs.Prelude.{◌≡◌, true, [], ◌<◌, ◌≤◌, ◌*◌, length, get_or};
 ghost use Rattle.model.specs.Panel.{base, per_slot, records};
 ghost use Rattle.model.specs.Records.{events_of};

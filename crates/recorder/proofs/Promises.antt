@@ -16,7 +16,6 @@ use Rattle.model.proofs.Bools.{is_true, both_left, both_right}
 use Rattle.model.proofs.Blocks.{Good, good-read, read-good, read_exact, altered_refused, written-good, written_read, written-said, block-bytes}
 use Rattle.model.proofs.Weights.{check-below}
 use Rattle.model.proofs.Laying as L
-use Rattle.model.proofs.Tampered as T
 use Rattle.common.specs.declared.Verdict.TheVariants.{Accepted}
 use Rattle.common.specs.Seen.{verdict_number}
 use Rattle.common.proofs.Back.{number-seen}

@@ -8,7 +8,6 @@ use Prim.Native.Nat.{ℕ, suc, zero, ◌+◌, ◌-◌, ◌*◌, ◌/◌, ◌%◌
 use native.Mathlib.Omega.{arith}
 use lib.Dec.{T, leb, leb→le}
 use lib.ListN.{length, get_or, take, drop, set, length-append}
-use Rattle.model.specs.Calls as C
 use Rattle.model.specs.Calls.{room_for}
 use Rattle.model.specs.Events.{Event}
 use Rattle.model.specs.Records.{bytes_of, events_of}

@@ -1,6 +1,7 @@
 // The shift recorder of document 02's K2: a block made of its events, a recording's next blocks laid into a lent buffer, and a lent block read.
 // `make_block`, `lay_blocks` and `read_block` are the public functions; none requires anything, and what they answer is the model's.
 #![tactic(auto)]
+
 ghost use Rattle.std.specs.Prelude.{◌≡◌, ◌+◌, ◌-◌, ◌≤◌, ◌<◌, min, length};
 ghost use Rattle.model.specs.Records.{low_bytes, lay};
 ghost use Rattle.model.specs.Pod.{zeros};

@@ -1,5 +1,6 @@
 // Event records: one read from a lent slice, one written to the start of a lent part. The reader and the writer stand on it.
 #![tactic(auto)]
+
 ghost use Rattle.std.specs.Prelude.{◌≡◌, ◌+◌, ◌≤◌, length};
 ghost use Rattle.model.specs.Records.{bits_of, signed_of, record_bytes, event_at, join16 as joined16, join32 as joined32};
 ghost use Rattle.records.specs.Seen.{event_of, word_at, over};

@@ -11,7 +11,7 @@ use Rattle.model.specs.Sending.{unless, one_unless}
 use Rattle.model.specs.Pointer.{button, axis, events_before, events_after, swaps, moves}
 use Rattle.pointer.specs.declared.Pointer.{Pointer}
 use Rattle.pointer.specs.Seen.{pointer_of}
-use Rattle.send.specs.Sent.{none_if, told_bytes}
+use Rattle.send.specs.Sent.{none_if}
 use Rattle.send.specs.Told.{one_if, touch_bytes, tool_bytes, place_bytes}
 
 -- ---- lists of events

@@ -1,5 +1,6 @@
 // The events of a frame, written into a lent buffer from a position on. The writer stands on it.
 #![tactic(auto)]
+
 ghost use Rattle.std.specs.Prelude.{◌≡◌, ◌∷◌, ◌++◌, ◌+◌, ◌<◌, ◌≤◌, length};
 ghost use Rattle.model.specs.Panel.{records};
 ghost use Rattle.model.specs.Records.{lay};

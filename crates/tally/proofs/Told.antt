@@ -13,15 +13,15 @@ use lib.ListN.{length, length-map, drop, get_or, set}
 use lib.Seq.{drop-set-lt}
 use Rattle.model.specs.Panel.{per_slot}
 use Rattle.model.specs.Table as T
-use Rattle.model.specs.Sending.{one_unless, changed_in, same_slot, changed_numbers, changed_mask, slot_done, changed_others, others_mask, fewest}
-use Rattle.model.proofs.Count.{changed_numbers_self, one_unless_le, same_count, numbers-set}
+use Rattle.model.specs.Sending.{one_unless, changed_in, changed_numbers, changed_mask, slot_done, changed_others, others_mask, fewest}
+use Rattle.model.proofs.Count.{changed_numbers_self, same_count, numbers-set}
 use Rattle.model.proofs.Ones.{mask_self, mask_ones, mask_set}
 use Rattle.model.proofs.Order.{mask_without}
 use Rattle.panel.specs.declared.Slot.{Slot}
 use Rattle.panel.specs.Seen.{slot_of, table_of, blank}
 use Rattle.panel.proofs.Tables.{rest-is, slot_at}
 use Rattle.tally.specs.declared.Changed.{Changed}
-use Rattle.tally.specs.Told.{unchanged, with_slot, Before, Tells}
+use Rattle.tally.specs.Told.{unchanged, with_slot, Tells}
 
 bit_le : (b : Bool) (x : ℕ) → one_unless b * x ≤ x
 bit_le true x = omega arith

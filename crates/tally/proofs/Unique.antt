@@ -1,5 +1,5 @@
 -- The tally's promises leave no choice: each law is of the contract itself. Assumes nothing.
-use mathlib.Core.Path.{◌≡◌, sym, ◌∙◌}
+use mathlib.Core.Path.{sym, ◌∙◌}
 use Rattle.model.specs.Unique.{OneAnswer}
 use Rattle.tally.proofs.Changed.none.Reads as none
 use Rattle.tally.proofs.differ.Reads as differ

@@ -1,5 +1,6 @@
 // What changes from slot to slot of a frame: the changed slots as one number, how many numbers, and how many events tell it. The plan and the writer stand on it.
 #![tactic(auto)]
+
 ghost use Rattle.std.specs.Prelude.{◌≡◌, cond, ◌+◌, ◌-◌, ◌^◌, ◌<◌, ◌≤◌, ◌*◌, eqb};
 ghost use Rattle.std.specs.Int.Bits.{bit_and};
 ghost use Rattle.std.specs.Int.Count.{ones as ones_of};

@@ -1,5 +1,5 @@
 -- What becomes of a good frame of a good state: refused for want of room, or written. Cited by the proof of `write`. Assumes nothing.
-use mathlib.Core.Path.{◌≡◌, refl, sym, ap, ap₂, ◌∙◌, subst}
+use mathlib.Core.Path.{◌≡◌, sym, ap, ap₂, ◌∙◌, subst}
 use mathlib.Core.Bool.{Bool, true, false}
 use mathlib.Core.List.{List, [], ◌++◌}
 use Prim.Native.Nat.{ℕ, ◌<◌, ◌≤◌, ◌+◌, ◌-◌, ◌*◌}
@@ -26,7 +26,6 @@ use Rattle.model.proofs.Calls.{after_steady, frame-count}
 use Rattle.model.proofs.Instances.{base-good}
 use Rattle.model.proofs.Pointing.{on_facts, pointing_steady}
 use Rattle.model.proofs.PointerFrame.{each_changed, count_adds}
-use Rattle.panel.specs.declared.Slot.{Slot}
 use Rattle.common.specs.declared.Verdict.TheVariants.{NoRoom}
 use Rattle.panel.specs.Seen.{slot_of, table_of, table_from, panel_seen}
 use Rattle.panel.proofs.Back.{table_back}
@@ -34,7 +33,6 @@ use Rattle.panel.proofs.Tables.{table-rest}
 use Rattle.records.proofs.Over.{lay_nil, lay-lay, lay-length}
 use Rattle.plan.specs.declared.Planned.{Planned}
 use Rattle.plan.specs.Walk.{Plans}
-use Rattle.pointer.specs.declared.Pointer.{Pointer}
 use Rattle.pointer.specs.declared.Moved.{Moved}
 use Rattle.pointer.specs.Seen.{pointer_of, pointer_from, pointing_of, fates_by}
 use Rattle.pointer.specs.Moved.{ranks_by, MovingIf, MovesBy, StillIf}

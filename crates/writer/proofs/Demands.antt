@@ -1,6 +1,6 @@
 -- What `fresh` and `write` answer, in the demands' words: refusals hand back, states stay well formed, live ids differ. Read back and fewest events stand
 -- in the crate link. Assumes nothing.
-use mathlib.Core.Path.{◌≡◌, refl, sym, ap, ap₂, ◌∙◌, subst}
+use mathlib.Core.Path.{◌≡◌, sym, ap, ap₂, ◌∙◌, subst}
 use mathlib.Core.Bool.{Bool, true, false, not}
 use mathlib.Core.List.{List}
 use Prim.Native.Nat.{ℕ}

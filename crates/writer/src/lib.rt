@@ -1,5 +1,6 @@
 // The type B writer: a fresh state, and a frame's events into the caller's buffer with the state after it; as an option also what tells an old display (document 02's K6).
 #![tactic(auto)]
+
 ghost use Rattle.std.specs.Prelude.{◌≡◌, length};
 ghost use Rattle.model.specs.Panel.{base};
 ghost use Rattle.model.specs.Calls.{room_for};

@@ -1,5 +1,4 @@
 -- `acts::act_of`: what a record asks, by its head. Assumes nothing.
-use borrow.Author.Rules.{rules}
 use mathlib.Core.Path.{◌∙◌}
 use native.Mathlib.Omega.{arith}
 use Rattle.acts.proofs.Heads.{further, unlisted}

@@ -3,7 +3,7 @@ use borrow.Author.Rules.{rules}
 use mathlib.Core.Path.{◌≡◌, ap, ◌∙◌}
 use mathlib.Core.Bool.{not}
 use mathlib.Core.List.{List}
-use Prim.Native.Nat.{◌-◌, ◌<◌}
+use Prim.Native.Nat.{◌<◌}
 use lib.ListN.{length, get_or}
 use mir.Syntax.{w32}
 use mir.Val.{SFits}
@@ -14,7 +14,7 @@ use Rattle.model.specs.Table.{live}
 use Rattle.panel.specs.declared.Slot.{Slot}
 use Rattle.panel.specs.Seen.{blank}
 use Rattle.panel.proofs.Tables.{unmapped}
-use Rattle.anonymous.proofs.Gathered.{Gathered, gathers, gathers_none, gathers_one, gathered_all}
+use Rattle.anonymous.proofs.Gathered.{gathers, gathers_none, gathers_one, gathered_all}
 use Rattle.anonymous.proofs.olds_of.Goals.{After-same-lives}
 use Rattle.anonymous.proofs.olds_of.Goals as goal
 

@@ -1,22 +1,17 @@
 -- `anonymous::read_frame` judges a type A frame's records, refusal by refusal, and makes the frame of good ones. Assumes nothing.
-use borrow.Author.Rules.{rules}
 use borrow.Author.Tests.{eq-eqb, ne_eqb, not-true, not-false}
 use mathlib.Core.Path.{◌≡◌, refl, sym, ap, subst, ◌∙◌}
-use mathlib.Core.Bool.{Bool, true, false}
+use mathlib.Core.Bool.{true, false}
 use mathlib.Core.List.{List}
-use Prim.Native.Nat.{ℕ, ◌%◌, ◌≤◌}
+use Prim.Native.Nat.{◌%◌, ◌≤◌}
 use native.Mathlib.Omega.{arith}
 use lib.Dec.{eqb}
 use lib.ListN.{length}
-use Rattle.model.specs.Panel.{Panel, records}
 use Rattle.model.specs.Records.{events_of}
 use Rattle.model.specs.Calls as C
-use Rattle.model.specs.Packets as P
 use Rattle.model.specs.Packets.{Contact, contacts_good, packets_of}
 use Rattle.model.specs.Anonymous.{few_enough}
 use Rattle.model.proofs.Bools.{holds}
-use Rattle.panel.specs.declared.Slot.{Slot}
-use Rattle.panel.specs.declared.Setup.{Setup}
 use Rattle.panel.specs.Seen.{panel_seen}
 use Rattle.panel.proofs.Setups.{Small, small}
 use Rattle.packets.specs.declared.Packets.{Packets}

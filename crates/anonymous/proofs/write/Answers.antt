@@ -1,9 +1,8 @@
 -- `anonymous::write` refuses a state that is not well formed and records that are refused, and hands a good frame to the writer. Assumes nothing.
 use borrow.Author.Rules.{rules}
-use borrow.Author.Tests.{eq-eqb, ne_eqb, not-true, not-false}
+use borrow.Author.Tests.{eq-eqb, ne_eqb}
 use mathlib.Core.Path.{◌≡◌, refl, sym, ap, ◌∙◌}
 use mathlib.Core.Bool.{Bool, true, false, cond}
-use mathlib.Core.List.{List}
 use Prim.Native.Nat.{ℕ, ◌*◌, ◌≤◌}
 use native.Mathlib.Omega.{arith}
 use lib.Dec.{eqb}
@@ -17,7 +16,6 @@ use Rattle.model.specs.Anonymous.{anonymous_verdict}
 use Rattle.common.specs.Seen.{verdict_from}
 use Rattle.panel.specs.Seen.{panel_seen}
 use Rattle.panel.proofs.Tables.{unmapped}
-use Rattle.writer.specs.declared.WriterState.{WriterState}
 use Rattle.writer.specs.Seen.{seen, not_written_by}
 use Rattle.writer.proofs.States.{good-setup, good-size, good-slots}
 use Rattle.anonymous.specs.declared.Framed.{Framed}

@@ -1,5 +1,4 @@
 -- `commands::absolute_of`: two numbers of 16 bits, the high byte first. Assumes nothing.
-use borrow.Author.Rules.{rules}
 use Rattle.commands.proofs.absolute_of.Goals as goal
 
 pub returns : goal.returns

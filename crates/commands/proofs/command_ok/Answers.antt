@@ -1,5 +1,4 @@
 -- `commands::command_ok`: by the kind, the model's test. Assumes nothing.
-use borrow.Author.Rules.{rules}
 use Rattle.commands.proofs.command_ok.Goals as goal
 
 pub returns-in-ButtonAction : goal.returns-in-ButtonAction

@@ -1,7 +1,6 @@
 -- `commands::join` is two bytes as a number, the high one first. By itself it would be proved too; a wrong one then fails at its callers. Assumes
 -- nothing.
 use mathlib.Core.Path.{refl}
-use borrow.Author.Rules.{rules}
 use Rattle.commands.proofs.join.Goals as goal
 
 pub returns : goal.returns

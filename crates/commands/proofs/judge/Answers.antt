@@ -2,7 +2,6 @@
 use mathlib.Core.Path.{◌≡◌, ap, ◌∙◌, subst}
 use Prim.Native.Nat.{ℕ, ◌≤◌}
 use native.Mathlib.Omega.{arith}
-use borrow.Author.Rules.{rules}
 use Rattle.model.specs.Commands.{set_clock, length_of, taken}
 use Rattle.pod.specs.declared.Clock.{Clock}
 use Rattle.pod.specs.Seen.{clock_seen}

@@ -1,7 +1,6 @@
 -- `commands::length_of`: each arm's constant is the model's length of that kind. By itself it would be proved too; a wrong one then fails at its
 -- callers. Assumes nothing.
 use mathlib.Core.Path.{◌≡◌, sym, ap}
-use borrow.Author.Rules.{rules}
 use Rattle.model.specs.Commands.{length_of}
 use Rattle.commands.specs.declared.Kind.{Kind}
 use Rattle.commands.specs.Seen.{kind_seen}

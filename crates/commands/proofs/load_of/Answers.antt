@@ -1,7 +1,6 @@
 -- `commands::load_of`: the filler is judged, then two numbers of 16 bits, the high byte first. Assumes nothing.
 use lib.ListN.{get_or}
 use borrow.Author.Tests.{eq-eqb, ne_eqb}
-use borrow.Author.Rules.{rules}
 use Rattle.commands.proofs.load_of.Goals as goal
 
 pub returns-then-bytes-ne-FILLER : goal.returns-then-bytes-ne-FILLER

@@ -1,7 +1,6 @@
 -- `commands::put` stores a command's bytes, by its kind. Assumes nothing.
 use mathlib.Core.Path.{◌≡◌, sym, ap, ◌∙◌, subst}
 use Prim.Native.Nat.{ℕ, ◌≤◌}
-use borrow.Author.Rules.{rules}
 use Rattle.model.specs.Commands.{command_bytes, size_of}
 use Rattle.records.specs.Seen.{over}
 use Rattle.commands.specs.declared.Command.{Command}

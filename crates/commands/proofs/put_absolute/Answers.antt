@@ -4,7 +4,6 @@ use Prim.Native.Nat.{◌/◌, ◌%◌}
 use native.Mathlib.Omega.{arith}
 use lib.ListN.{length-set}
 use lib.Seq.{sets-eq}
-use borrow.Author.Rules.{rules}
 use Rattle.records.specs.Seen.{over}
 use Rattle.commands.proofs.put_absolute.Goals as goal
 

@@ -2,7 +2,6 @@
 use mathlib.Core.List.{[], ◌∷◌}
 use lib.ListN.{length-set}
 use lib.Seq.{sets-eq}
-use borrow.Author.Rules.{rules}
 use Rattle.records.specs.Seen.{over}
 use Rattle.commands.proofs.put_one.Goals as goal
 

@@ -1,10 +1,8 @@
 -- `commands::read` answers as the model does: nothing from the end on, unfinished where a command is cut short, else the command judged. Assumes
 -- nothing.
 use mathlib.Core.Path.{◌≡◌, sym, ap, ap₂, ◌∙◌}
-use mathlib.Core.List.{List}
-use Prim.Native.Nat.{ℕ, ◌+◌, ◌-◌, ◌≤◌, ◌<◌}
+use Prim.Native.Nat.{◌+◌, ◌-◌, ◌≤◌, ◌<◌}
 use lib.ListN.{length, drop}
-use borrow.Author.Rules.{rules}
 use Rattle.model.specs.Commands.{length_of, judged}
 use Rattle.model.proofs.CommandReads.{kind_at, read_none, read-cut, read_whole}
 use Rattle.records.proofs.Over.{rest_all}

@@ -1,5 +1,4 @@
 -- `commands::state_after`: a reset's is the fresh one, every other is as it came. Assumes nothing.
-use borrow.Author.Rules.{rules}
 use Rattle.commands.proofs.state_after.Goals as goal
 
 pub returns-in-Reset : goal.returns-in-Reset

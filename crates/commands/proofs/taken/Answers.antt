@@ -1,7 +1,5 @@
 -- `commands::taken`: a good command, or refused. Assumes nothing.
 use mathlib.Core.Path.{sym, ap}
-use borrow.Author.Tests.{not-true, not-false}
-use borrow.Author.Rules.{rules}
 use Rattle.commands.specs.declared.Answer.TheVariants as A
 use Rattle.commands.proofs.Answers.{command-held}
 use Rattle.commands.proofs.taken.Goals as goal

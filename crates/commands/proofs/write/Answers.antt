@@ -5,8 +5,7 @@ use Prim.Native.Nat.{◌+◌, ◌-◌, ◌≤◌}
 use native.Mathlib.Omega.{arith}
 use lib.Dec.{leb}
 use lib.ListN.{length, length-drop}
-use borrow.Author.Tests.{leb-true, not-true, not-false}
-use borrow.Author.Rules.{rules}
+use borrow.Author.Tests.{leb-true}
 use Rattle.model.specs.Calls.{room_for}
 use Rattle.model.specs.Pod.{well_formed}
 use Rattle.model.specs.Commands.{command_bytes, size_of}

@@ -1,7 +1,7 @@
 -- `common::last_mode`: the mode after the records that are left. The loop has passed i records. Assumes nothing.
 use borrow.Author.Rules.{rules}
-use mathlib.Core.Path.{◌≡◌, sym, ap, ◌∙◌}
-use Prim.Native.Nat.{◌+◌, ◌-◌, ◌*◌, ◌/◌, ◌≤◌}
+use mathlib.Core.Path.{sym, ap, ◌∙◌}
+use Prim.Native.Nat.{◌+◌, ◌-◌, ◌*◌, ◌/◌}
 use lib.ListN.{length}
 use Rattle.model.specs.Records.{events_from}
 use Rattle.common.specs.Lost.{on_lost, heard, last_mode}

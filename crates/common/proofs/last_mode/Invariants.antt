@@ -1,11 +1,8 @@
 -- `common::last_mode`: the mode after the records that are left. The loop has passed i records. Assumes nothing.
-use borrow.Author.Rules.{rules}
-use mathlib.Core.Path.{◌≡◌, sym, ap, ◌∙◌}
-use Prim.Native.Nat.{◌+◌, ◌-◌, ◌*◌, ◌/◌, ◌≤◌}
-use lib.ListN.{length}
+use mathlib.Core.Path.{◌≡◌}
+use Prim.Native.Nat.{◌-◌, ◌*◌, ◌≤◌}
 use Rattle.model.specs.Records.{events_from}
-use Rattle.common.specs.Lost.{on_lost, heard, last_mode}
-use Rattle.common.proofs.Lost.{last-next, last_end}
+use Rattle.common.specs.Lost.{last_mode}
 use Rattle.common.specs.Seen.{mode_of}
 use Rattle.common.proofs.last_mode.Given as goal
 

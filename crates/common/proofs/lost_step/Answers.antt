@@ -1,5 +1,4 @@
 -- `common::lost_step`: the mode after a record that finds it lost. Assumes nothing.
-use borrow.Author.Rules.{rules}
 use mathlib.Core.Path.{sym}
 use Rattle.records.specs.Seen.{event_of}
 use Rattle.common.specs.Seen.{mode_of}

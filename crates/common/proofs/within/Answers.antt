@@ -1,5 +1,4 @@
 -- `common::within` tells whether a signed number is 0 to a top. Assumes nothing.
-use borrow.Author.Rules.{rules}
 use mathlib.Core.Path.{sym, ap, ◌∙◌}
 use lib.Dec.{leb}
 use mir.Syntax.{w32}

@@ -1,5 +1,4 @@
 -- `crane_acts::abs_act`: what an event of type 3 asks, by its code. Assumes nothing.
-use borrow.Author.Rules.{rules}
 use borrow.Author.Tests.{ne_eqb}
 use mathlib.Core.Path.{ap}
 use native.Mathlib.Omega.{arith}

@@ -1,5 +1,4 @@
 -- `crane_acts::act_of`: what a record asks, by its type. Assumes nothing.
-use borrow.Author.Rules.{rules}
 use borrow.Author.Tests.{ne_eqb}
 use Rattle.crane_acts.proofs.act_of.Goals as goal
 

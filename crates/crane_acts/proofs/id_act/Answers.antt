@@ -1,5 +1,4 @@
 -- `crane_acts::id_act`: what ABS_MT_TRACKING_ID asks. Assumes nothing.
-use borrow.Author.Rules.{rules}
 use mathlib.Core.Path.{sym}
 use native.Mathlib.Omega.{arith}
 use mir.Syntax.{w32}

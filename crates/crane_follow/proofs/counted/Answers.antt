@@ -1,5 +1,4 @@
 -- `crane_follow::counted`: the counts of a run so far, and the first record skipped. Assumes nothing.
-use borrow.Author.Rules.{rules}
 use mathlib.Core.Path.{sym, ap, ◌∙◌}
 use Rattle.common.specs.Seen.{skipped_from}
 use Rattle.common.proofs.Back.{skipped_back}

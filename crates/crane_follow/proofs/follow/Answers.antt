@@ -1,11 +1,9 @@
 -- `crane_follow::follow`: a run that begins following. The loop has read k records; what is left of the run is the whole run's answer. Assumes nothing.
 use borrow.Author.Rules.{rules}
-use borrow.Author.Tests.{not-true, not-false}
 use mathlib.Core.Path.{◌≡◌, refl, sym, ap, ap₂, ◌∙◌}
-use mathlib.Core.Bool.{Bool, true}
+use mathlib.Core.Bool.{true}
 use mathlib.Core.List.{List}
-use mathlib.Core.Logic.{⊎_elim}
-use Prim.Native.Nat.{ℕ, suc, ◌+◌, ◌-◌, ◌*◌, ◌/◌, ◌≤◌, ◌<◌}
+use Prim.Native.Nat.{ℕ, suc, ◌+◌, ◌-◌, ◌*◌, ◌/◌, ◌<◌}
 use native.Mathlib.Omega.{arith}
 use lib.IntN.{pos}
 use lib.ListN.{length, get_or}
@@ -27,13 +25,12 @@ use Rattle.crane_acts.specs.declared.Act.{Act}
 use Rattle.crane_acts.specs.Seen.{act_of}
 use Rattle.crane_follow.specs.declared.Ended.{Ended}
 use Rattle.crane_follow.specs.Seen.{reader_of}
-use Rattle.common.specs.Runs.{onward, counted, FirstWithin, first_at}
+use Rattle.common.specs.Runs.{onward, counted, first_at}
 use Rattle.common.proofs.Firsts.{names, stays_within}
-use Rattle.common.proofs.Turns.{Pending, uncompared, compared, with_id, with_number, sofar, selected}
+use Rattle.common.proofs.Turns.{uncompared, compared, with_id, with_number, sofar, selected}
 use Rattle.common.proofs.Turns.{Place, asks, skips-type, skips-code, selects, shows, repeats, drops, spoils, stores}
 use Rattle.crane_follow.specs.Runs.{ended_from, lost_at}
 use Rattle.crane_follow.proofs.Ends.{kept_at, ends, loses}
-use Rattle.crane_follow.proofs.follow.Invariants.{Kept}
 use Rattle.crane_follow.proofs.follow.Goals.{then-written+else-not-ids_differ, else-written, After-act_of-a}
 use Rattle.crane_follow.proofs.follow.Goals as goal
 
@@ -192,7 +189,7 @@ loop-k-preserved-in-Report c =
     let p = c in
     let l = p.loop-k in
     let differ : ids_differ (table_of l.pending) ≡ true =
-        elim c.if-written.branch [ then-written+else-not-ids_differ w ↦ sym w.ids_differ.ensures ∙ w.if-not-ids_differ.false | else-written w ↦ l.invariant.pends.apart w.if-written.false ] in
+    elim c.if-written.branch [ then-written+else-not-ids_differ w ↦ sym w.ids_differ.ensures ∙ w.if-not-ids_differ.false | else-written w ↦ l.invariant.pends.apart w.if-written.false ] in
     let told = asked (goal.at.loop-k-preserved-in-Report p).After-act_of-a ∙ ap (act (goal.at.loop-k-preserved-in-Report p).After-act_of-a) c.in-Report.is in
     let left = l.invariant.left ∙ shows (here (goal.at.loop-k-preserved-in-Report p).After-act_of-a) told differ in
     let table = compared (setup (goal.at.loop-k-preserved-in-Report p).After-act_of-a).n l.written c.if-written.written l.pending l.invariant.pends differ in

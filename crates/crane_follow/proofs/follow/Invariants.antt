@@ -1,38 +1,19 @@
 -- `crane_follow::follow`: a run that begins following. The loop has read k records; what is left of the run is the whole run's answer. Assumes nothing.
-use borrow.Author.Rules.{rules}
-use borrow.Author.Tests.{not-true, not-false}
-use mathlib.Core.Path.{◌≡◌, refl, sym, ap, ap₂, ◌∙◌}
-use mathlib.Core.Bool.{Bool, true}
+use mathlib.Core.Path.{◌≡◌}
+use mathlib.Core.Bool.{Bool}
 use mathlib.Core.List.{List}
-use mathlib.Core.Logic.{⊎_elim}
-use Prim.Native.Nat.{ℕ, suc, ◌+◌, ◌-◌, ◌*◌, ◌/◌, ◌≤◌, ◌<◌}
-use native.Mathlib.Omega.{arith}
-use lib.IntN.{pos}
-use lib.ListN.{length, get_or}
+use Prim.Native.Nat.{ℕ, ◌+◌, ◌-◌, ◌*◌, ◌≤◌, ◌<◌}
+use lib.ListN.{length}
 use Rattle.model.specs.Panel.{crane_records}
-use Rattle.model.specs.Table.{ids_differ}
-use Rattle.model.specs.Events as E
-use Rattle.model.specs.Events.{Event, classify}
 use Rattle.model.specs.Reader as R
 use Rattle.model.specs.Reader.{following, nothing}
-use Rattle.model.specs.Records.{event_at, events_from}
-use Rattle.common.specs.declared.Counts.{Counts}
-use Rattle.common.specs.Seen.{counts_of, counts_from}
-use Rattle.common.proofs.Back.{counts-seen}
+use Rattle.model.specs.Records.{events_from}
 use Rattle.crane_panel.specs.declared.Setup.{Setup}
 use Rattle.crane_panel.specs.declared.Slot.{Slot}
-use Rattle.crane_panel.specs.Seen.{slot_of, table_of, panel_seen, blank, unused}
-use Rattle.crane_panel.proofs.Setups.{small}
-use Rattle.crane_acts.specs.declared.Act.{Act}
-use Rattle.crane_acts.specs.Seen.{act_of}
-use Rattle.crane_follow.specs.declared.Ended.{Ended}
+use Rattle.crane_panel.specs.Seen.{slot_of, panel_seen, blank, unused}
 use Rattle.crane_follow.specs.Seen.{reader_of}
-use Rattle.common.specs.Runs.{onward, counted, FirstWithin, first_at}
-use Rattle.common.proofs.Firsts.{names, stays_within}
-use Rattle.common.proofs.Turns.{Pending, uncompared, compared, with_id, with_number, sofar, selected}
-use Rattle.common.proofs.Turns.{Place, asks, skips-type, skips-code, selects, shows, repeats, drops, spoils, stores}
-use Rattle.crane_follow.specs.Runs.{ended_from, lost_at}
-use Rattle.crane_follow.proofs.Ends.{kept_at, ends, loses}
+use Rattle.common.specs.Runs.{onward, FirstWithin, first_at}
+use Rattle.common.proofs.Turns.{Pending, sofar}
 use Rattle.crane_follow.proofs.follow.Given as goal
 
 -- What the loop keeps: what is left of the run is the whole run's answer.

@@ -1,16 +1,13 @@
 -- `crane_image::image_table` makes the image's table. The loop has filled i slots. Assumes nothing.
 use borrow.Author.Rules.{rules}
 use mathlib.Core.Path.{◌≡◌, ap, ap₂, ◌∙◌}
-use mathlib.Core.List.{List}
-use Prim.Native.Nat.{ℕ, ◌-◌, ◌*◌, ◌≤◌, ◌<◌}
+use Prim.Native.Nat.{◌*◌, ◌<◌}
 use native.Mathlib.Omega.{arith}
-use lib.IntN.{ℤ}
-use lib.ListN.{length, set}
+use lib.ListN.{set}
 use Rattle.model.specs.Panel.{crane_per_slot, crane_records}
 use Rattle.model.specs.Frame.{numbers_from}
 use Rattle.common.proofs.Images as Any
 use Rattle.crane_panel.specs.Seen.{slot_from, panel_seen, unused}
-use Rattle.crane_panel.specs.declared.Slot.{Slot}
 use Rattle.crane_image.proofs.Lent.{row_read}
 use Rattle.crane_image.proofs.image_table.Invariants.{filled}
 use Rattle.crane_image.proofs.image_table.Goals as goal

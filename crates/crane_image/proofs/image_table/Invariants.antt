@@ -1,17 +1,13 @@
 -- `crane_image::image_table` makes the image's table. The loop has filled i slots. Assumes nothing.
-use borrow.Author.Rules.{rules}
-use mathlib.Core.Path.{◌≡◌, ap, ap₂, ◌∙◌}
+use mathlib.Core.Path.{◌≡◌}
 use mathlib.Core.List.{List}
-use Prim.Native.Nat.{ℕ, ◌-◌, ◌*◌, ◌≤◌, ◌<◌}
-use native.Mathlib.Omega.{arith}
+use Prim.Native.Nat.{ℕ, ◌-◌, ◌*◌, ◌≤◌}
 use lib.IntN.{ℤ}
-use lib.ListN.{length, set}
+use lib.ListN.{length}
 use Rattle.model.specs.Panel.{crane_per_slot, crane_records}
-use Rattle.model.specs.Frame.{numbers_from}
 use Rattle.common.proofs.Images as Any
-use Rattle.crane_panel.specs.Seen.{slot_from, panel_seen, unused}
+use Rattle.crane_panel.specs.Seen.{slot_from, unused}
 use Rattle.crane_panel.specs.declared.Slot.{Slot}
-use Rattle.crane_image.proofs.Lent.{row_read}
 use Rattle.crane_image.proofs.image_table.Given as goal
 
 -- The table with i slots filled.

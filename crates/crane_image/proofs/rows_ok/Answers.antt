@@ -1,9 +1,8 @@
 -- `crane_image::rows_ok` tells whether every row is good. The loop has passed i good rows. Assumes nothing.
 use borrow.Author.Rules.{rules}
-use borrow.Author.Tests.{not-true, not-false}
 use mathlib.Core.Path.{◌≡◌, sym, ap, ◌∙◌}
 use mathlib.Core.Bool.{◌&&◌}
-use Prim.Native.Nat.{◌+◌, ◌-◌, ◌*◌, ◌≤◌}
+use Prim.Native.Nat.{◌+◌, ◌-◌, ◌*◌}
 use native.Mathlib.Omega.{arith}
 use Rattle.model.specs.Panel.{crane_per_slot}
 use Rattle.model.specs.Table.{good_slot, good_records}

@@ -1,5 +1,4 @@
 -- `crane_image::slot_of` holds four numbers in a slot. Assumes nothing.
-use borrow.Author.Rules.{rules}
 use mir.Syntax.{w32}
 use mir.ValLaws.{to_z-of_z}
 use Rattle.crane_image.proofs.slot_of.Goals as goal

@@ -1,6 +1,4 @@
 -- `crane_panel::numbers_ok` tells whether x, y and pressure are in their ranges, number by number. Assumes nothing.
-use borrow.Author.Rules.{rules}
-use borrow.Author.Tests.{not-true, not-false}
 use Rattle.crane_panel.proofs.Slots.{numbers_1, numbers_2, numbers_3}
 use Rattle.crane_panel.proofs.numbers_ok.Goals as goal
 

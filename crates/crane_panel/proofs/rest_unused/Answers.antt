@@ -1,9 +1,8 @@
 -- `crane_panel::rest_unused` tells whether the records from n up were never used. The loop has passed those below i. Assumes nothing.
 use borrow.Author.Rules.{rules}
-use borrow.Author.Tests.{not-true, not-false}
 use mathlib.Core.Path.{◌≡◌, refl, sym, ap, ◌∙◌}
 use mathlib.Core.Bool.{◌&&◌}
-use Prim.Native.Nat.{◌-◌, ◌+◌}
+use Prim.Native.Nat.{◌+◌}
 use lib.ListN.{drop, get_or, get_or-replicate}
 use Rattle.model.specs.Panel.{crane_records}
 use Rattle.model.specs.Table.{eq_slot, eq_table}

@@ -1,14 +1,10 @@
 -- `crane_panel::rest_unused` tells whether the records from n up were never used. The loop has passed those below i. Assumes nothing.
-use borrow.Author.Rules.{rules}
-use borrow.Author.Tests.{not-true, not-false}
-use mathlib.Core.Path.{◌≡◌, refl, sym, ap, ◌∙◌}
-use mathlib.Core.Bool.{◌&&◌}
-use Prim.Native.Nat.{◌-◌, ◌+◌}
-use lib.ListN.{drop, get_or, get_or-replicate}
+use mathlib.Core.Path.{◌≡◌}
+use Prim.Native.Nat.{◌-◌}
+use lib.ListN.{drop}
 use Rattle.model.specs.Panel.{crane_records}
-use Rattle.model.specs.Table.{eq_slot, eq_table}
-use Rattle.crane_panel.specs.Seen.{slot_of, table_of, blank, unused, unused_all}
-use Rattle.common.proofs.Tables.{rest-none, same_turn, same_over}
+use Rattle.model.specs.Table.{eq_table}
+use Rattle.crane_panel.specs.Seen.{table_of, unused_all}
 use Rattle.crane_panel.proofs.rest_unused.Given as goal
 
 abbrev pub invariant-loop-i : goal.invariant-loop-i

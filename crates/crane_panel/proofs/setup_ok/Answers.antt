@@ -1,6 +1,4 @@
 -- `crane_panel::setup_ok` tells whether a setup is good, number by number. Assumes nothing.
-use borrow.Author.Rules.{rules}
-use borrow.Author.Tests.{not-true, not-false}
 use mathlib.Core.Path.{◌≡◌, sym, ◌∙◌}
 use mathlib.Core.Bool.{true}
 use Rattle.model.specs.Panel.{crane_records}

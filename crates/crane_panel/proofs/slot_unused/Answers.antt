@@ -1,5 +1,4 @@
 -- `crane_panel::slot_unused` tells whether a record is unused. Assumes nothing.
-use borrow.Author.Rules.{rules}
 use Rattle.crane_panel.proofs.slot_unused.Goals as goal
 
 pub returns : goal.returns

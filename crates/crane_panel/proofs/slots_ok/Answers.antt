@@ -1,6 +1,5 @@
 -- `crane_panel::slots_ok` tells whether the panel's slots are good. The loop has passed i good ones. Assumes nothing.
 use borrow.Author.Rules.{rules}
-use borrow.Author.Tests.{not-true, not-false}
 use mathlib.Core.Path.{◌≡◌, sym, ap, ◌∙◌}
 use mathlib.Core.Bool.{◌&&◌}
 use Prim.Native.Nat.{◌≤◌, ◌-◌, ◌+◌}

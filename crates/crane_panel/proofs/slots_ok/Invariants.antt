@@ -1,15 +1,9 @@
 -- `crane_panel::slots_ok` tells whether the panel's slots are good. The loop has passed i good ones. Assumes nothing.
-use borrow.Author.Rules.{rules}
-use borrow.Author.Tests.{not-true, not-false}
-use mathlib.Core.Path.{◌≡◌, sym, ap, ◌∙◌}
-use mathlib.Core.Bool.{◌&&◌}
-use Prim.Native.Nat.{◌≤◌, ◌-◌, ◌+◌}
-use native.Mathlib.Omega.{arith}
-use lib.ListN.{take, drop, length}
-use Rattle.model.specs.Panel.{crane_records}
+use mathlib.Core.Path.{◌≡◌}
+use Prim.Native.Nat.{◌≤◌, ◌-◌}
+use lib.ListN.{take, drop}
 use Rattle.model.specs.Table.{good_records}
-use Rattle.common.proofs.Tables.{slots-turn, slots-over}
-use Rattle.crane_panel.specs.Seen.{slot_of, table_of, fields_of, blank}
+use Rattle.crane_panel.specs.Seen.{table_of, fields_of}
 use Rattle.crane_panel.proofs.slots_ok.Given as goal
 
 abbrev pub invariant-loop-i : goal.invariant-loop-i

@@ -1,6 +1,5 @@
 -- `crane_panel::table_ok` tells whether a table's records are good: the panel's slots, and then those past them. Assumes nothing.
 use borrow.Author.Rules.{rules}
-use borrow.Author.Tests.{not-true, not-false}
 use mathlib.Core.Path.{◌≡◌, refl, sym, ap, ◌∙◌}
 use mathlib.Core.Bool.{true}
 use native.Mathlib.Omega.{arith}

@@ -1,14 +1,9 @@
 -- `crane_panel::tables_same` tells whether two tables are equal. The loop has passed s equal slots. Assumes nothing.
-use borrow.Author.Rules.{rules}
-use mathlib.Core.Path.{◌≡◌, sym, ap, ◌∙◌}
-use mathlib.Core.Bool.{◌&&◌}
-use Prim.Native.Nat.{◌≤◌, ◌-◌, ◌+◌}
-use native.Mathlib.Omega.{arith}
+use mathlib.Core.Path.{◌≡◌}
+use Prim.Native.Nat.{◌≤◌, ◌-◌}
 use lib.ListN.{drop}
-use borrow.Author.Tests.{not-true, not-false}
 use Rattle.model.specs.Table.{eq_table}
-use Rattle.common.proofs.Tables.{same_turn, same_over}
-use Rattle.crane_panel.specs.Seen.{slot_of, table_of, blank}
+use Rattle.crane_panel.specs.Seen.{table_of}
 use Rattle.crane_panel.proofs.tables_same.Given as goal
 
 abbrev pub invariant-loop-s : goal.invariant-loop-s

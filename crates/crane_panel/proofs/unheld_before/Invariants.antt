@@ -1,19 +1,9 @@
 -- `crane_panel::unheld_before` tells whether a number is none of the first ids. The loop has compared j of them. Assumes nothing.
-use borrow.Author.Rules.{rules}
-use mathlib.Core.Path.{◌≡◌, sym, ap, ◌∙◌}
-use mathlib.Core.Bool.{not, ◌&&◌}
-use Prim.Native.Nat.{◌≤◌, ◌-◌, ◌+◌}
-use native.Mathlib.Omega.{arith}
-use lib.IntN.{ℤ}
-use lib.ListN.{take, drop, get_or, length}
-use mir.Syntax.{w32}
-use mir.Val.{SFits, to_z, of_z}
-use mir.ValLaws.{to_z-of_z}
-use Rattle.model.specs.Panel.{crane_records}
-use Rattle.model.specs.Numbers.{eq_z}
+use mathlib.Core.Path.{◌≡◌}
+use Prim.Native.Nat.{◌≤◌, ◌-◌}
+use lib.ListN.{take, drop}
 use Rattle.model.specs.Table.{ids, unheld}
-use Rattle.common.proofs.Tables.{unheld-turn, unheld-over}
-use Rattle.crane_panel.specs.Seen.{slot_of, table_of, blank}
+use Rattle.crane_panel.specs.Seen.{table_of}
 use Rattle.crane_panel.proofs.unheld_before.Given as goal
 
 abbrev pub invariant-loop-j : goal.invariant-loop-j

@@ -1,5 +1,4 @@
 -- `crane_panel::unused_table` is a table of unused records. Assumes nothing.
-use borrow.Author.Rules.{rules}
 use Rattle.crane_panel.proofs.unused_table.Goals as goal
 
 pub returns : goal.returns

@@ -1,6 +1,4 @@
 -- `crane_reader::load`: refusals 2, 7, 8, and the loaded state. Assumes nothing.
-use borrow.Author.Rules.{rules}
-use borrow.Author.Tests.{not-true, not-false}
 use mathlib.Core.Path.{◌≡◌, sym, ap, ◌∙◌}
 use mathlib.Core.Bool.{true}
 use Rattle.model.specs.Panel.{crane}

@@ -1,5 +1,4 @@
 -- `crane_reader::load_accepted`: the answer of an accepted load. Assumes nothing.
-use borrow.Author.Rules.{rules}
 use Rattle.crane_reader.proofs.load_accepted.Goals as goal
 
 pub returns : goal.returns

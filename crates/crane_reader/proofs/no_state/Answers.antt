@@ -1,5 +1,4 @@
 -- `crane_reader::no_state`: zeros and mode following. Assumes nothing.
-use borrow.Author.Rules.{rules}
 use Rattle.crane_reader.proofs.no_state.Goals as goal
 
 pub returns : goal.returns

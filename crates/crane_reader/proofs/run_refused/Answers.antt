@@ -1,5 +1,4 @@
 -- `crane_reader::run_refused`: the state as it came in, and zeros. Assumes nothing.
-use borrow.Author.Rules.{rules}
 use Rattle.crane_reader.proofs.run_refused.Goals as goal
 
 pub returns : goal.returns

@@ -1,5 +1,4 @@
 -- `crane_reader::settled_ok`: nothing is pending where the mode says so. Assumes nothing.
-use borrow.Author.Rules.{rules}
 use Rattle.crane_reader.proofs.settled_ok.Goals as goal
 
 pub returns-in-Dropped : goal.returns-in-Dropped

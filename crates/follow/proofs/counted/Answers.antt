@@ -1,6 +1,5 @@
 -- `follow::counted`: the counts of a run so far, and the first record skipped. Assumes nothing.
-use borrow.Author.Rules.{rules}
-use mathlib.Core.Path.{◌≡◌, sym, ap, ◌∙◌}
+use mathlib.Core.Path.{sym, ap, ◌∙◌}
 use Rattle.common.specs.Seen.{skipped_from}
 use Rattle.common.proofs.Back.{skipped_back}
 use Rattle.follow.proofs.counted.Goals as goal

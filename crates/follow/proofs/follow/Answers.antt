@@ -1,11 +1,9 @@
 -- `follow::follow`: a run that begins following. The loop has read k records; what is left of the run is the whole run's answer. Assumes nothing.
 use borrow.Author.Rules.{rules}
-use borrow.Author.Tests.{not-true, not-false}
 use mathlib.Core.Path.{◌≡◌, refl, sym, ap, ap₂, ◌∙◌}
 use mathlib.Core.Bool.{Bool, true, false, cond}
 use mathlib.Core.List.{List}
-use mathlib.Core.Logic.{⊎_elim}
-use Prim.Native.Nat.{ℕ, ◌+◌, ◌-◌, ◌*◌, ◌/◌, ◌<◌}
+use Prim.Native.Nat.{ℕ, ◌+◌, ◌*◌, ◌/◌, ◌<◌}
 use native.Mathlib.Omega.{arith}
 use lib.IntN.{ℤ, pos}
 use lib.ListN.{length, get_or}
@@ -20,16 +18,15 @@ use Rattle.model.specs.Reader as R
 use Rattle.model.specs.Reader.{following}
 use Rattle.model.specs.Records.{signed_of, event_at}
 use Rattle.common.proofs.Values.{slot-in, slot_out, number-good, number-bad}
-use Rattle.common.proofs.Turns.{Place, asks}
+use Rattle.common.proofs.Turns.{asks}
 use Rattle.records.specs.Seen.{headed}
 use Rattle.records.proofs.Words.{words_event}
 use Rattle.panel.specs.declared.Setup.{Setup}
 use Rattle.panel.specs.declared.Slot.{Slot}
-use Rattle.panel.specs.Seen.{slot_of, table_of, panel_seen, blank}
+use Rattle.panel.specs.Seen.{table_of, panel_seen, blank}
 use Rattle.panel.proofs.Setups.{Small, small}
 use Rattle.acts.specs.declared.Act.{Act}
 use Rattle.acts.specs.Seen.{act_of}
-use Rattle.follow.specs.Seen.{reader_of}
 use Rattle.follow.specs.Runs.{ended_from, left_from, so_far, Skips}
 use Rattle.follow.proofs.Ends.{kept_at, ends, counts-told}
 use Rattle.follow.proofs.Kept as K
@@ -143,9 +140,9 @@ loop-k-preserved-in-Report c =
     let l = p.loop-k in
     let e = asked (goal.at.loop-k-preserved-in-Report p).After-word_at-value _ c.in-Report.is in
     let differ : ids_differ (table_of l.pending) ≡ true =
-        elim c.if-written.branch [ then-written+else-not-ids_differ w ↦ sym w.ids_differ.ensures ∙ w.if-not-ids_differ.false | else-written w ↦ l.invariant.pends.apart w.if-written.false ] in
+    elim c.if-written.branch [ then-written+else-not-ids_differ w ↦ sym w.ids_differ.ensures ∙ w.if-not-ids_differ.false | else-written w ↦ l.invariant.pends.apart w.if-written.false ] in
     let same : c.if-opened-lt2.shown ≡ l.pending =
-        elim c.if-opened-lt2.branch [ then-opened-lt2 w ↦ w.shown-is ∙ two-shown l.invariant (inside (goal.at.loop-k-preserved-in-Report p).After-word_at-value) w.if-opened-lt2.true | else-opened-lt2 w ↦ w.shown-is ] in
+    elim c.if-opened-lt2.branch [ then-opened-lt2 w ↦ w.shown-is ∙ two-shown l.invariant (inside (goal.at.loop-k-preserved-in-Report p).After-word_at-value) w.if-opened-lt2.true | else-opened-lt2 w ↦ w.shown-is ] in
     kept-report l.invariant (inside (goal.at.loop-k-preserved-in-Report p).After-word_at-value) _ _ same e differ
 
 pub drops-requires : goal.drops-requires

@@ -1,6 +1,5 @@
 -- `follow::lost`: the end of a run that lost track. Assumes nothing.
-use borrow.Author.Rules.{rules}
-use mathlib.Core.Path.{◌≡◌, sym, ap, ◌∙◌}
+use mathlib.Core.Path.{sym, ap, ◌∙◌}
 use Prim.Native.Nat.{◌-◌, ◌*◌, ◌/◌}
 use lib.ListN.{length}
 use Rattle.model.proofs.Bytes.{events-length}

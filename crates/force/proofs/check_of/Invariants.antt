@@ -1,12 +1,8 @@
 -- `force::check_of` is the exclusive or of all bytes: what was gathered and what is left give the whole. Assumes nothing.
-use mathlib.Core.Path.{◌≡◌, sym, ap, ◌∙◌}
+use mathlib.Core.Path.{◌≡◌}
 use Prim.Native.Nat.{◌≤◌, ◌-◌}
-use native.Mathlib.Numerals.{add-one}
-use native.Mathlib.Omega.{arith}
-use lib.ListN.{length, drop, drop_of_length-le}
-use lib.Seq.{drop-cons}
-use borrow.Author.Rules.{rules}
-use Rattle.model.specs.Force.{xor_after, check_of}
+use lib.ListN.{length, drop}
+use Rattle.model.specs.Force.{xor_after}
 use Rattle.force.proofs.check_of.Given as goal
 
 abbrev pub invariant-loop-i : goal.invariant-loop-i

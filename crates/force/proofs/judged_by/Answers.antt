@@ -1,5 +1,4 @@
 -- `force::judged_by` is the head alone where LEN is over 16, else the whole packet. Assumes nothing.
-use borrow.Author.Rules.{rules}
 use borrow.Author.Tests.{lt-ltb, le-ltb}
 use Rattle.force.proofs.judged_by.Goals as goal
 

@@ -3,7 +3,6 @@ use mathlib.Core.Path.{sym}
 use Prim.Native.Nat.{◌≤◌}
 use native.Mathlib.Omega.{arith}
 use lib.ListN.{length, get_or-eq_default}
-use borrow.Author.Rules.{rules}
 use Rattle.force.proofs.len_in.Goals as goal
 
 pub returns-then-packet-lt-HEAD : goal.returns-then-packet-lt-HEAD

@@ -1,10 +1,8 @@
 -- `force::mark_from` finds the first 0x2B: what is still to be searched gives the same place. Assumes nothing.
-use mathlib.Core.Path.{◌≡◌, refl, sym, ◌∙◌}
+use mathlib.Core.Path.{◌≡◌}
 use Prim.Native.Nat.{◌-◌}
 use lib.ListN.{length}
-use borrow.Author.Rules.{rules}
 use Rattle.model.specs.Force.{mark_from}
-use Rattle.model.proofs.ForceReads.{mark_here, mark-next, mark_end}
 use Rattle.force.proofs.mark_from.Given as goal
 
 abbrev pub invariant-loop-place : goal.invariant-loop-place

@@ -6,7 +6,6 @@ use Prim.Native.Nat.{ℕ, ◌+◌, ◌-◌, ◌≤◌}
 use native.Mathlib.Omega.{arith}
 use lib.ListN.{length, get_or, take, drop, length-drop}
 use lib.Seq.{length-take-le}
-use borrow.Author.Rules.{rules}
 use borrow.Author.Tests.{eq-eqb, ne_eqb}
 use Rattle.model.specs.Force.{most_data, head_bytes, packet_bytes, wrong_check, check_of, op_in, len_in, judged_by, refusing, meant, good_check, packet_in}
 use Rattle.model.proofs.ForcePackets.{judged_head, judged-whole, packet-short, packet-over, packet-whole, checked-good, checked-bad}

@@ -1,10 +1,8 @@
 -- `force::read` answers as the model does: nothing where no 0x2B is left, else the packet there, its place counted from the start. Assumes nothing.
 use mathlib.Core.Path.{◌≡◌, sym, ap, ap₂, ◌∙◌}
-use mathlib.Core.List.{List}
 use Prim.Native.Nat.{ℕ, ◌+◌, ◌<◌}
 use native.Mathlib.Omega.{arith}
 use lib.ListN.{length, drop}
-use borrow.Author.Rules.{rules}
 use Rattle.model.specs.Force.{packet_in, mark_from, read_at}
 use Rattle.model.proofs.ForceReads.{read_found, read_none, read_within}
 use Rattle.records.proofs.Over.{rest_all}

@@ -5,8 +5,7 @@ use Prim.Native.Nat.{◌+◌, ◌-◌, ◌≤◌}
 use native.Mathlib.Omega.{arith}
 use lib.Dec.{leb}
 use lib.ListN.{length, length-drop}
-use borrow.Author.Rules.{rules}
-use borrow.Author.Tests.{leb-true, not-true, not-false}
+use borrow.Author.Tests.{leb-true}
 use Rattle.model.specs.Calls.{room_for}
 use Rattle.model.specs.Force.{stick_bytes, good_report, packet_of}
 use Rattle.model.proofs.Bools.{and_left, and_right}

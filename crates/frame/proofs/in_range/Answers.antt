@@ -6,7 +6,6 @@ use mir.Syntax.{w32}
 use mir.ValLaws.{to_z-of_z}
 use Rattle.model.specs.Records.{bits_of}
 use Rattle.frame.proofs.Ranges.{bits_below, bits_from}
-use borrow.Author.Rules.{rules}
 use Rattle.frame.proofs.in_range.Goals.{After-bits_of-bits}
 use Rattle.frame.proofs.in_range.Goals as goal
 

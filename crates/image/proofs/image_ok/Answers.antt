@@ -1,7 +1,6 @@
 -- `image::image_ok` tells whether an image may be loaded: its length, its rows, its ids, the current slot. Assumes nothing.
-use borrow.Author.Rules.{rules}
 use mathlib.Core.Path.{◌≡◌, sym, ap, ◌∙◌}
-use borrow.Author.Tests.{not-true, not-false, eq-eqb}
+use borrow.Author.Tests.{eq-eqb}
 use lib.ListN.{drop}
 use Rattle.model.specs.Table.{good_table, ids_differ}
 use Rattle.model.specs.Calls.{image_table}

@@ -1,9 +1,9 @@
 -- `image::image_table` makes the image's table. The loop has filled i slots. Assumes nothing.
 use borrow.Author.Rules.{rules}
 use mathlib.Core.Path.{◌≡◌, ap, ap₂, ◌∙◌}
-use Prim.Native.Nat.{◌-◌, ◌*◌, ◌≤◌, ◌<◌}
+use Prim.Native.Nat.{◌*◌, ◌<◌}
 use native.Mathlib.Omega.{arith}
-use lib.ListN.{length, set}
+use lib.ListN.{set}
 use Rattle.model.specs.Panel.{per_slot, records}
 use Rattle.model.specs.Frame.{numbers_from}
 use Rattle.panel.specs.Seen.{slot_from}

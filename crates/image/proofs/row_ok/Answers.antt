@@ -1,6 +1,5 @@
 -- `image::row_ok` tells whether a row is good: its id, then its other numbers. Assumes nothing.
 use borrow.Author.Rules.{rules}
-use borrow.Author.Tests.{not-true, not-false}
 use mathlib.Core.Path.{◌≡◌, sym, ap, ◌∙◌}
 use mir.Syntax.{w32}
 use mir.Val.{SFits}

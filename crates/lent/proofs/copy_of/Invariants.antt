@@ -1,12 +1,7 @@
 -- `lent::copy_of`: as many bytes are copied as were passed; the measure is what is left of them. Assumes nothing.
-use mathlib.Core.Path.{◌≡◌, refl, sym, ap, ◌∙◌}
-use mathlib.Core.List.{◌∷◌, [], ◌++◌}
-use Prim.Native.Nat.{◌-◌, ◌≤◌, ◌<◌}
-use native.Mathlib.Numerals.{add-one}
-use native.Mathlib.Omega.{arith}
-use lib.ListN.{length, get_or, take, length-set}
-use lib.Seq.{take_all, take-suc, take-suc-set}
-use borrow.Author.Rules.{rules}
+use mathlib.Core.Path.{◌≡◌}
+use Prim.Native.Nat.{◌-◌, ◌≤◌}
+use lib.ListN.{length, take}
 use Rattle.lent.specs.Lent.{table_size}
 use Rattle.lent.proofs.copy_of.Given as goal
 

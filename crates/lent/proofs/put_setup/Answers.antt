@@ -1,7 +1,6 @@
 -- `lent::put_setup` stores a setup's six numbers at a position. Assumes nothing.
 use Rattle.lent.specs.Lent.{setup_bytes}
 use Rattle.lent.proofs.Slots.{six_laid}
-use borrow.Author.Rules.{rules}
 use Rattle.lent.proofs.put_setup.Goals as goal
 
 pub returns : goal.returns

@@ -6,7 +6,6 @@ use native.Mathlib.Omega.{arith}
 use lib.ListN.{take, drop, length-set}
 use lib.Seq.{sets-eq}
 use Rattle.model.specs.Records.{low_bytes, lay}
-use borrow.Author.Rules.{rules}
 use Rattle.lent.proofs.put_word.Goals as goal
 
 pub bounds-b-at-2 : goal.bounds-b-at-2

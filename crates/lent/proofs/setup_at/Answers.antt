@@ -1,5 +1,4 @@
 -- `lent::setup_at` reads the setup at a position. Assumes nothing.
-use borrow.Author.Rules.{rules}
 use Rattle.lent.proofs.setup_at.Goals as goal
 
 pub returns : goal.returns

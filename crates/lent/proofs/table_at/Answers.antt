@@ -1,10 +1,10 @@
 -- `lent::table_at`: as many slots are read as were passed; the measure is what is left of them. Assumes nothing.
 use mathlib.Core.Path.{◌≡◌, sym, ap, ap₂, ◌∙◌}
 use mathlib.Core.List.{◌∷◌, [], ◌++◌}
-use Prim.Native.Nat.{◌-◌, ◌≤◌, ◌<◌}
+use Prim.Native.Nat.{◌<◌}
 use native.Mathlib.Numerals.{add-one}
 use native.Mathlib.Omega.{arith}
-use lib.ListN.{length, take, length-set}
+use lib.ListN.{length, length-set}
 use lib.Seq.{take_all, take-suc-set}
 use borrow.Author.Rules.{rules}
 use Rattle.model.specs.Panel.{records}

@@ -1,15 +1,9 @@
 -- `lent::table_at`: as many slots are read as were passed; the measure is what is left of them. Assumes nothing.
-use mathlib.Core.Path.{◌≡◌, sym, ap, ap₂, ◌∙◌}
-use mathlib.Core.List.{◌∷◌, [], ◌++◌}
-use Prim.Native.Nat.{◌-◌, ◌≤◌, ◌<◌}
-use native.Mathlib.Numerals.{add-one}
-use native.Mathlib.Omega.{arith}
-use lib.ListN.{length, take, length-set}
-use lib.Seq.{take_all, take-suc-set}
-use borrow.Author.Rules.{rules}
+use mathlib.Core.Path.{◌≡◌}
+use Prim.Native.Nat.{◌-◌, ◌≤◌}
+use lib.ListN.{length, take}
 use Rattle.model.specs.Panel.{records}
 use Rattle.lent.specs.Lent.{slots_from}
-use Rattle.lent.proofs.Tables.{slots-none, slots-more}
 use Rattle.lent.proofs.table_at.Given as goal
 
 abbrev pub invariant-loop-i : goal.invariant-loop-i

@@ -1,13 +1,11 @@
 -- `lent_devices::copy` meets its contract: the bytes before i are copied, and the others stay. Assumes nothing.
 use mathlib.Core.Path.{◌≡◌, refl, ap, ◌∙◌}
-use mathlib.Core.List.{List, ◌++◌, append-nil}
-use Prim.Native.Nat.{ℕ, ◌-◌, ◌≤◌}
+use mathlib.Core.List.{◌++◌, append-nil}
 use native.Mathlib.Omega.{arith}
-use lib.ListN.{length, take, drop, drop_of_length-le}
+use lib.ListN.{length, drop, drop_of_length-le}
 use lib.Seq.{take_all}
 use borrow.Author.Rules.{rules}
 use Rattle.recorder.proofs.Laws.{copy_turn, copy_length}
-use Rattle.lent_devices.proofs.copy.Invariants.{Copied}
 use Rattle.lent_devices.proofs.copy.Goals.{At-loop-i}
 use Rattle.lent_devices.proofs.copy.Goals as goal
 

@@ -1,12 +1,8 @@
 -- `lent_devices::copy` meets its contract: the bytes before i are copied, and the others stay. Assumes nothing.
-use mathlib.Core.Path.{◌≡◌, refl, ap, ◌∙◌}
-use mathlib.Core.List.{List, ◌++◌, append-nil}
+use mathlib.Core.Path.{◌≡◌}
+use mathlib.Core.List.{List, ◌++◌}
 use Prim.Native.Nat.{ℕ, ◌-◌, ◌≤◌}
-use native.Mathlib.Omega.{arith}
-use lib.ListN.{length, take, drop, drop_of_length-le}
-use lib.Seq.{take_all}
-use borrow.Author.Rules.{rules}
-use Rattle.recorder.proofs.Laws.{copy_turn, copy_length}
+use lib.ListN.{length, take, drop}
 use Rattle.lent_devices.proofs.copy.Given as goal
 
 pub record Copied (b₀ s b : List ℕ) (i : ℕ) : Type 0 where

@@ -5,7 +5,6 @@ use Rattle.force.specs.declared.ReadAnswer.{ReadAnswer}
 use Rattle.force.specs.Seen.{answer_seen}
 use Rattle.force.proofs.Answers.{answer-seen}
 use Rattle.lent_devices.specs.Sticks.{force_told}
-use borrow.Author.Rules.{rules}
 use Rattle.lent_devices.proofs.force_read.Goals as goal
 
 pub returns : goal.returns

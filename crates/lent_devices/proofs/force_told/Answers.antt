@@ -1,5 +1,4 @@
 -- `lent_devices::force_told`: the numbers of each answer. Assumes nothing.
-use borrow.Author.Rules.{rules}
 use Rattle.lent_devices.proofs.force_told.Goals as goal
 
 pub returns-in-Report : goal.returns-in-Report

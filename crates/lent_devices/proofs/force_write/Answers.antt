@@ -1,10 +1,8 @@
 -- `lent_devices::force_write`: a refusal of numbers that no report holds, or the library's answer as numbers. Assumes nothing.
 use mathlib.Core.Path.{◌≡◌, sym, ◌∙◌}
 use mathlib.Core.Bool.{true}
-use borrow.Author.Tests.{not-true, not-false}
 use Rattle.lent_devices.specs.Sticks.{typed}
 use Rattle.lent_devices.proofs.Written.{untyped, written}
-use borrow.Author.Rules.{rules}
 use Rattle.lent_devices.proofs.force_write.Goals.{Else-not-typed}
 use Rattle.lent_devices.proofs.force_write.Goals as goal
 

@@ -1,6 +1,5 @@
 -- `lent_devices::lay_blocks`: the library's answer as numbers. Assumes nothing.
 use Rattle.lent_devices.proofs.Made.{laid-is}
-use borrow.Author.Rules.{rules}
 use Rattle.lent_devices.proofs.lay_blocks.Goals as goal
 
 pub returns : goal.returns

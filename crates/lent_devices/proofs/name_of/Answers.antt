@@ -1,5 +1,4 @@
 -- `lent_devices::name_of`: document 02's order of the names, and 0 for events. Assumes nothing.
-use borrow.Author.Rules.{rules}
 use Rattle.lent_devices.proofs.name_of.Goals as goal
 
 pub returns-in-Events : goal.returns-in-Events

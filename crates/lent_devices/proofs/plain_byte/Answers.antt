@@ -5,7 +5,6 @@ use mir.Syntax.{w32}
 use mir.ValLaws.{to_z-of_z}
 use Rattle.common.specs.Seen.{natural}
 use Rattle.lent_devices.proofs.Fits.{up-to}
-use borrow.Author.Rules.{rules}
 use Rattle.lent_devices.proofs.plain_byte.Goals.{After-nat_of}
 use Rattle.lent_devices.proofs.plain_byte.Goals as goal
 

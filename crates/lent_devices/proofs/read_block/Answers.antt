@@ -4,7 +4,6 @@ use Rattle.model.specs.Recorder.{read_block, read_number}
 use Rattle.recorder.specs.Seen.{read_seen}
 use Rattle.recorder.proofs.Laws.{read-seen}
 use Rattle.lent_devices.specs.Blocks.{read_told}
-use borrow.Author.Rules.{rules}
 use Rattle.lent_devices.proofs.read_block.Goals as goal
 
 pub returns : goal.returns

@@ -1,5 +1,4 @@
 -- `lent_devices::read_told`: the place and count of events, else zeros. Assumes nothing.
-use borrow.Author.Rules.{rules}
 use Rattle.lent_devices.proofs.read_told.Goals as goal
 
 pub returns-in-Events : goal.returns-in-Events

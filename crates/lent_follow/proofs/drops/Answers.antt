@@ -1,5 +1,4 @@
 -- `lent_follow::drops`: the end of a run at a bad value or a loss. Assumes nothing.
-use borrow.Author.Rules.{rules}
 use Prim.Native.Nat.{◌+◌}
 use Rattle.model.specs.Reader.{dropped}
 use Rattle.follow.specs.Runs.{left_from, so_far}

@@ -1,11 +1,9 @@
 -- `lent_follow::follow`: a run that begins following, on tables in lent bytes. The loop has read k records; what is left of the run is the whole run's answer. Assumes nothing.
 use borrow.Author.Rules.{rules}
-use borrow.Author.Tests.{not-true, not-false}
 use mathlib.Core.Path.{◌≡◌, refl, sym, ap, ap₂, ◌∙◌}
 use mathlib.Core.Bool.{Bool, true, false, cond}
 use mathlib.Core.List.{List}
-use mathlib.Core.Logic.{⊎_elim}
-use Prim.Native.Nat.{ℕ, ◌+◌, ◌-◌, ◌*◌, ◌/◌, ◌<◌}
+use Prim.Native.Nat.{ℕ, ◌+◌, ◌*◌, ◌/◌, ◌<◌}
 use native.Mathlib.Omega.{arith}
 use lib.IntN.{pos}
 use lib.ListN.{length}
@@ -20,15 +18,14 @@ use Rattle.model.specs.Reader as R
 use Rattle.model.specs.Reader.{following}
 use Rattle.model.specs.Records.{signed_of, event_at}
 use Rattle.common.proofs.Values.{slot-in, slot_out, number-good, number-bad}
-use Rattle.common.proofs.Turns.{Place, asks}
+use Rattle.common.proofs.Turns.{asks}
 use Rattle.records.specs.Seen.{headed}
 use Rattle.records.proofs.Words.{words_event}
 use Rattle.panel.specs.declared.Setup.{Setup}
-use Rattle.panel.specs.Seen.{slot_of, table_of, panel_seen, blank}
+use Rattle.panel.specs.Seen.{table_of, panel_seen}
 use Rattle.panel.proofs.Setups.{Small, small}
 use Rattle.acts.specs.declared.Act.{Act}
 use Rattle.acts.specs.Seen.{act_of}
-use Rattle.follow.specs.Seen.{reader_of}
 use Rattle.follow.specs.Runs.{ended_from, left_from, so_far, Skips}
 use Rattle.follow.proofs.Ends.{kept_at, ends, counts-told}
 use Rattle.follow.proofs.Kept as K
@@ -37,7 +34,7 @@ use Rattle.follow.proofs.Kept.{two-shown, ends-bad, ends_lost, ends_stale}
 use Rattle.lent.specs.Lent.{table_size}
 use Rattle.lent.proofs.Tables.{slots_length}
 use Rattle.lent_follow.specs.InPlace.{both_size, shown_in, pending_in}
-use Rattle.lent_follow.proofs.Runs.{Runs, goes_on}
+use Rattle.lent_follow.proofs.Runs.{goes_on}
 use Rattle.lent_follow.proofs.Words.{id-stored, x-stored, y-stored, pressure-stored, major-stored, minor-stored}
 use Rattle.lent_follow.proofs.follow.Goals.{then-written+else-not-ids_apart, else-written, After-id_ok, After-word_at-value}
 use Rattle.lent_follow.proofs.follow.Goals as goal
@@ -173,7 +170,7 @@ loop-k-preserved-in-Report c =
     let l = p.loop-k in
     let e = asked (goal.at.loop-k-preserved-in-Report p).After-word_at-value _ told.in-Report.is in
     let differ : ids_differ (table_of (pending_in l.t)) ≡ true =
-        elim c.if-written.branch [ then-written+else-not-ids_apart w ↦ sym w.ids_apart.ensures ∙ w.if-not-ids_apart.false | else-written w ↦ l.invariant.kept.pends.apart w.if-written.false ] in
+    elim c.if-written.branch [ then-written+else-not-ids_apart w ↦ sym w.ids_apart.ensures ∙ w.if-not-ids_apart.false | else-written w ↦ l.invariant.kept.pends.apart w.if-written.false ] in
     goes_on _ (search rules) g.show.ensures (kept-report l.invariant.kept (inside (goal.at.loop-k-preserved-in-Report p).After-word_at-value) (pending_in l.t) _ refl e differ)
 
 pub drops-requires : goal.drops-requires

@@ -1,10 +1,9 @@
 -- `lent_follow::ids_apart` tells whether live ids of the pending table differ. The loop has walked over those below k, unless low bits met. Assumes nothing.
 use borrow.Author.Rules.{rules}
-use borrow.Author.Tests.{not-true, not-false, eqb-true}
+use borrow.Author.Tests.{eqb-true}
 use mathlib.Core.Path.{◌≡◌, refl, sym, ap, ◌∙◌, subst}
-use mathlib.Core.Bool.{true, false, ◌&&◌}
-use mathlib.Core.List.{List}
-use Prim.Native.Nat.{ℕ, ◌≤◌, ◌<◌, ◌-◌, ◌+◌}
+use mathlib.Core.Bool.{true, ◌&&◌}
+use Prim.Native.Nat.{◌<◌}
 use native.Mathlib.Omega.{arith}
 use lib.Bits.{bit_and}
 use lib.Dec.{eqb}
@@ -19,7 +18,7 @@ use Rattle.model.specs.Records.{signed_of}
 use Rattle.model.specs.Table.{ids_differ}
 use Rattle.model.proofs.Bools.{and_left, and_right}
 use Rattle.common.specs.Seen.{natural}
-use Rattle.common.proofs.Apart.{bit_of, Walked, dead_turn, free_turn, walk_over}
+use Rattle.common.proofs.Apart.{bit_of, dead_turn, free_turn, walk_over}
 use Rattle.panel.specs.declared.Slot.{Slot}
 use Rattle.panel.specs.Seen.{slot_of, table_of, blank, unused, unused_all, SameFrom}
 use Rattle.lent.specs.Lent.{table_size}

@@ -1,6 +1,6 @@
 -- `lent_follow::show`: all that is pending is shown, by two slots where they are enough. Assumes nothing.
 use borrow.Author.Rules.{rules}
-use mathlib.Core.Path.{◌≡◌, ap₂, ◌∙◌}
+use mathlib.Core.Path.{ap₂, ◌∙◌}
 use lib.ListN.{get_or, set}
 use Rattle.panel.specs.Seen.{blank}
 use Rattle.lent_follow.proofs.show.Goals as goal

@@ -1,10 +1,8 @@
 -- `lent_follow::show_all`: the pending table over the shown one. The loop has copied i bytes. Assumes nothing.
 use borrow.Author.Rules.{rules}
-use Prim.Native.Nat.{◌-◌}
 use native.Mathlib.Omega.{arith}
-use lib.ListN.{length, length-set}
 use Rattle.lent.specs.Lent.{table_size}
-use Rattle.lent_follow.proofs.Copied.{Copied, copied_none, copied_more, copied_all}
+use Rattle.lent_follow.proofs.Copied.{copied_none, copied_more, copied_all}
 use Rattle.lent_follow.proofs.show_all.Goals as goal
 
 pub loop-i-init : goal.loop-i-init

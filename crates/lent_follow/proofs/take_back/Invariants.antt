@@ -1,10 +1,7 @@
 -- `lent_follow::take_back`: the shown table over the pending one. The loop has copied i bytes. Assumes nothing.
-use borrow.Author.Rules.{rules}
 use Prim.Native.Nat.{◌-◌}
-use native.Mathlib.Omega.{arith}
-use lib.ListN.{length, length-set}
 use Rattle.lent.specs.Lent.{table_size}
-use Rattle.lent_follow.proofs.Copied.{Copied, copied_none, copied_more, copied_all}
+use Rattle.lent_follow.proofs.Copied.{Copied}
 use Rattle.lent_follow.proofs.take_back.Given as goal
 
 abbrev pub invariant-loop-i : goal.invariant-loop-i

@@ -2,7 +2,6 @@
 use lib.ListN.{length}
 use borrow.Author.Tests.{eq-eqb, ne_eqb}
 use Rattle.lent_line.specs.Layout.{line_size}
-use borrow.Author.Rules.{rules}
 use Rattle.lent_line.proofs.formed.Goals as goal
 
 pub returns-then-b-ne-SIZE : goal.returns-then-b-ne-SIZE

@@ -1,6 +1,5 @@
 -- `lent_line::left_in` reads the seven places. Assumes nothing.
 use Rattle.lent_line.proofs.Laid.{left-read}
-use borrow.Author.Rules.{rules}
 use Rattle.lent_line.proofs.left_in.Goals as goal
 
 pub returns : goal.returns

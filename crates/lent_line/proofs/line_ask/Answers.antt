@@ -1,7 +1,6 @@
 -- `lent_line::line_ask`: bytes that are not formed, and the answer of the state that they hold. Assumes nothing.
 use mathlib.Core.Path.{◌≡◌, refl, sym, ap, ◌∙◌, subst}
 use mathlib.Core.Bool.{true, false}
-use borrow.Author.Tests.{not-true, not-false}
 use Rattle.model.specs.Panel.{base}
 use Rattle.model.specs.Pieces.{line_ask_call}
 use Rattle.reader.specs.Seen.{AnswersAs, answer_seen}
@@ -10,7 +9,6 @@ use Rattle.lent_reader.specs.Seen.{asked_row}
 use Rattle.lent_line.specs.Layout.{formed, unpacked}
 use Rattle.lent_line.proofs.Laid.{formed-length}
 use Rattle.lent_line.proofs.Asked.{asked-few, line_back, ask_in}
-use borrow.Author.Rules.{rules}
 use Rattle.lent_line.proofs.line_ask.Goals.{After-ask, Else-not-formed}
 use Rattle.lent_line.proofs.line_ask.Goals as goal
 

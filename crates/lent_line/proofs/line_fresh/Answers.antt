@@ -10,7 +10,6 @@ use Rattle.pieces.specs.Seen.{fresh_from}
 use Rattle.lent_reader.specs.Seen.{setup_from}
 use Rattle.lent_reader.proofs.Stored.{good-n, good-slot}
 use Rattle.lent_line.proofs.Calls.{fresh-ready, fresh-refused, fresh_unfit, fresh-stored}
-use borrow.Author.Rules.{rules}
 use Rattle.lent_line.proofs.line_fresh.Goals.{After-number-number}
 use Rattle.lent_line.proofs.line_fresh.Goals as goal
 

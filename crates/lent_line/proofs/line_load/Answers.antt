@@ -2,7 +2,6 @@
 use mathlib.Core.Path.{◌≡◌, refl, sym, ap, ◌∙◌}
 use mathlib.Core.Bool.{true, false}
 use native.Mathlib.Omega.{arith}
-use borrow.Author.Tests.{not-true, not-false}
 use Rattle.model.specs.Panel.{base}
 use Rattle.model.specs.Pieces.{line_load_call}
 use Rattle.pieces.specs.Seen.{seen, loaded_from}
@@ -10,7 +9,6 @@ use Rattle.lent_reader.proofs.Stored.{good-n, good-slot}
 use Rattle.lent_line.specs.Layout.{formed, unpacked}
 use Rattle.lent_line.proofs.Laid.{formed-length}
 use Rattle.lent_line.proofs.Calls.{load_in, load-ready, load-refused, load_stored}
-use borrow.Author.Rules.{rules}
 use Rattle.lent_line.proofs.line_load.Goals.{After-load-loaded, Else-not-formed}
 use Rattle.lent_line.proofs.line_load.Goals as goal
 

@@ -2,7 +2,6 @@
 use mathlib.Core.Path.{ap, ◌∙◌}
 use Rattle.model.specs.Records.{lay}
 use Rattle.lent_line.specs.Layout.{left_at, tail_bytes}
-use borrow.Author.Rules.{rules}
 use Rattle.lent_line.proofs.put_state.Goals as goal
 
 pub returns : goal.returns

@@ -2,7 +2,6 @@
 use mathlib.Core.Path.{◌≡◌, refl, sym, ap, ◌∙◌}
 use mathlib.Core.Bool.{true, false}
 use native.Mathlib.Omega.{arith}
-use borrow.Author.Tests.{not-true, not-false}
 use Rattle.model.specs.Panel.{base}
 use Rattle.model.specs.Pieces.{take_call}
 use Rattle.pieces.specs.Seen.{seen, taken_from}
@@ -10,7 +9,6 @@ use Rattle.lent_reader.proofs.Stored.{good-n, good-slot}
 use Rattle.lent_line.specs.Layout.{formed, unpacked}
 use Rattle.lent_line.proofs.Laid.{formed-length}
 use Rattle.lent_line.proofs.Calls.{take_in, take-ready, take-refusal, take-stored}
-use borrow.Author.Rules.{rules}
 use Rattle.lent_line.proofs.take.Goals.{After-take-taken, Else-not-formed}
 use Rattle.lent_line.proofs.take.Goals as goal
 

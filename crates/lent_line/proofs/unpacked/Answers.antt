@@ -1,6 +1,5 @@
 -- `lent_line::unpacked` reads the parts of a state by their positions. Assumes nothing.
 use native.Mathlib.Omega.{arith}
-use borrow.Author.Rules.{rules}
 use Rattle.lent_line.proofs.unpacked.Goals as goal
 
 pub overflow_cast-count : goal.overflow_cast-count

@@ -1,6 +1,5 @@
 -- `lent_plan::give_ids` judges the rest of a frame's rows, makes its table in place and its counter, and tells what changes. The first m of `taken` are the ids taken so far. Assumes nothing.
 use borrow.Author.Rules.{rules}
-use borrow.Author.Tests.{not-true, not-false}
 use mathlib.Core.Path.{◌≡◌, refl, sym, ap, ap₂, subst, ◌∙◌}
 use mathlib.Core.Bool.{true, false, ◌&&◌}
 use mathlib.Core.List.{List, [], ◌∷◌, ◌++◌}
@@ -14,17 +13,16 @@ use lib.Seq.{length-take-le, take-suc-set}
 use mir.Syntax.{w32}
 use mir.Val.{SFits}
 use mir.ValLaws.{to_z-of_z}
-use Rattle.model.specs.Panel.{id_count, per_slot, records}
+use Rattle.model.specs.Panel.{per_slot, records}
 use Rattle.model.specs.Numbers.{eq_z}
 use Rattle.model.specs.Table.{ids, unheld}
-use Rattle.model.specs.Frame.{Fate, kind_of, good_row, good_rows, fate, next, free_id, rows_from, taken_after, counter_after, Planned, after}
+use Rattle.model.specs.Frame.{kind_of, good_row, good_rows, fate, next, free_id, rows_from, taken_after, counter_after, Planned, after}
 use Rattle.model.proofs.Rows.{rows_none}
 use Rattle.model.proofs.Tries.{Same, same-last, planned-same}
 use Rattle.common.specs.declared.TrackingId.{TrackingId}
 use Rattle.common.specs.Marks.{bit_of, Met}
 use Rattle.common.proofs.Apart.{front_holds, met_join}
 use Rattle.common.proofs.Signs.{first-false, first-true}
-use Rattle.panel.specs.declared.Slot.{Slot}
 use Rattle.panel.specs.declared.Setup.{Setup}
 use Rattle.panel.specs.Seen.{slot_of, table_of, axes_of, unused}
 use Rattle.panel.proofs.Setups.{small}

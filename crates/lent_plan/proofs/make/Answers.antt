@@ -1,5 +1,4 @@
 -- `lent_plan::make` stores a slot and counts its changed numbers. Assumes nothing.
-use borrow.Author.Rules.{rules}
 use mathlib.Core.Path.{ap, ◌∙◌}
 use Rattle.tally.specs.Told.{with_slot}
 use Rattle.lent_plan.proofs.make.Goals as goal

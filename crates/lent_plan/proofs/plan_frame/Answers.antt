@@ -1,6 +1,5 @@
 -- `lent_plan::plan_frame` judges the rows of a frame, makes its table in place and its counter and tells what changes, up to the first contact that begins; the rest is `give_ids`'. Assumes nothing.
 use borrow.Author.Rules.{rules}
-use borrow.Author.Tests.{not-true, not-false}
 use mathlib.Core.Path.{◌≡◌, refl, sym, ap, subst, ◌∙◌}
 use mathlib.Core.Bool.{true, false, cond}
 use mathlib.Core.List.{List}
@@ -14,13 +13,13 @@ use mir.ValLaws.{to_z-of_z}
 use Rattle.model.specs.Panel.{per_slot, records}
 use Rattle.model.specs.Numbers.{eq_z}
 use Rattle.model.specs.Table.{ids, live, numbers_of}
-use Rattle.model.specs.Frame.{Fate, kind_of, good_row, good_rows, values_good, none, goes_on, begins, fate, free_id, rows_from, slot_after, framed, Planned}
+use Rattle.model.specs.Frame.{kind_of, good_row, good_rows, none, goes_on, begins, fate, free_id, rows_from, slot_after, framed}
 use Rattle.model.specs.Sending.{changed_in}
 use Rattle.model.proofs.Rows.{rows_none}
 use Rattle.common.proofs.Signs.{first-false, first-true, or-true}
 use Rattle.panel.specs.declared.Slot.{Slot}
 use Rattle.panel.specs.declared.Setup.{Setup}
-use Rattle.panel.specs.Seen.{slot_of, table_of, axes_of, panel_seen}
+use Rattle.panel.specs.Seen.{slot_of, table_of, axes_of}
 use Rattle.panel.proofs.Setups.{small}
 use Rattle.tally.specs.declared.Changed.{Changed}
 use Rattle.tally.specs.Told.{with_slot, Tells}

@@ -1,40 +1,19 @@
 -- `lent_plan::plan_frame` judges the rows of a frame, makes its table in place and its counter and tells what changes, up to the first contact that begins; the rest is `give_ids`'. Assumes nothing.
-use borrow.Author.Rules.{rules}
-use borrow.Author.Tests.{not-true, not-false}
-use mathlib.Core.Path.{◌≡◌, refl, sym, ap, subst, ◌∙◌}
-use mathlib.Core.Bool.{true, false, cond}
+use mathlib.Core.Path.{◌≡◌}
 use mathlib.Core.List.{List}
-use Prim.Native.Nat.{ℕ, ◌<◌, ◌≤◌, ◌+◌, ◌-◌, ◌*◌}
-use native.Mathlib.Omega.{arith}
-use lib.IntN.{ℤ, pos}
-use lib.ListN.{length, set}
-use mir.Syntax.{w32}
-use mir.Val.{SFits, of_z, to_z}
-use mir.ValLaws.{to_z-of_z}
-use Rattle.model.specs.Panel.{per_slot, records}
-use Rattle.model.specs.Numbers.{eq_z}
-use Rattle.model.specs.Table.{ids, live, numbers_of}
-use Rattle.model.specs.Frame.{Fate, kind_of, good_row, good_rows, values_good, none, goes_on, begins, fate, free_id, rows_from, slot_after, framed, Planned}
-use Rattle.model.specs.Sending.{changed_in}
-use Rattle.model.proofs.Rows.{rows_none}
-use Rattle.common.proofs.Signs.{first-false, first-true, or-true}
+use Prim.Native.Nat.{ℕ, ◌≤◌, ◌-◌}
+use lib.IntN.{ℤ}
+use lib.ListN.{length}
+use Rattle.model.specs.Panel.{per_slot}
+use Rattle.model.specs.Table.{ids}
+use Rattle.model.specs.Frame.{values_good, rows_from, framed}
 use Rattle.panel.specs.declared.Slot.{Slot}
 use Rattle.panel.specs.declared.Setup.{Setup}
-use Rattle.panel.specs.Seen.{slot_of, table_of, axes_of, panel_seen}
-use Rattle.panel.proofs.Setups.{small}
+use Rattle.panel.specs.Seen.{table_of, panel_seen}
 use Rattle.tally.specs.declared.Changed.{Changed}
-use Rattle.tally.specs.Told.{with_slot, Tells}
-use Rattle.plan.specs.Row.{begun, contact_of, stayed}
-use Rattle.plan.specs.Quiet.{NextLoud}
+use Rattle.tally.specs.Told.{Tells}
 use Rattle.plan.specs.Walk.{rows_good, plan_from}
-use Rattle.plan.proofs.Turn as Turn
-use Rattle.plan.proofs.Turn.{good-plain, stayed-slot}
-use Rattle.plan.proofs.Skipped.{skipped}
 use Rattle.lent.specs.Lent.{table_size, table_in}
-use Rattle.lent_plan.specs.InPlace.{PlansIn}
-use Rattle.lent_table.proofs.Read.{full as table_long}
-use Rattle.lent_plan.proofs.Passed.{passed}
-use Rattle.lent_plan.proofs.Turned.{Next, Becomes, tells-set, plan_steady}
 use Rattle.lent_plan.proofs.plan_frame.Given as goal
 
 -- The first s rows are good and their slots made, and no id is given: what is left is what the frame plans, and c tells what changed.

@@ -1,7 +1,6 @@
 -- `lent_plan::refused` is the answer to a bad row. Assumes nothing.
 use mathlib.Core.Path.{ap}
 use mathlib.Core.Bool.{false}
-use borrow.Author.Rules.{rules}
 use Rattle.tally.specs.declared.Changed.{Changed}
 use Rattle.lent_plan.specs.declared.Plan.{Plan}
 use Rattle.lent_plan.proofs.refused.Goals as goal

@@ -1,6 +1,5 @@
 -- `lent_pod::both_told`: trigger and position of stick 0, then of stick 1. Assumes nothing.
 use Rattle.lent_pod.proofs.Lists.{bit-digit}
-use borrow.Author.Rules.{rules}
 use Rattle.lent_pod.proofs.both_told.Goals as goal
 
 pub returns : goal.returns

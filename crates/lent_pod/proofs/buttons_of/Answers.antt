@@ -1,6 +1,5 @@
 -- `lent_pod::buttons_of`: an action that is a byte. Assumes nothing.
 use borrow.Author.Tests.{le-leb, lt-leb}
-use borrow.Author.Rules.{rules}
 use Rattle.lent_pod.proofs.buttons_of.Goals as goal
 
 pub returns-then-action-gt-MOST_BYTE : goal.returns-then-action-gt-MOST_BYTE

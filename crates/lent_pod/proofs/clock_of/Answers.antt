@@ -3,10 +3,8 @@ use mathlib.Core.Path.{◌≡◌, sym, ◌∙◌}
 use mathlib.Core.Bool.{true}
 use native.Mathlib.Omega.{arith}
 use lib.ListN.{get_or}
-use borrow.Author.Tests.{not-true, not-false}
 use Rattle.lent_pod.specs.Orders.{three_bytes}
 use Rattle.lent_pod.proofs.Orders.{three_fit}
-use borrow.Author.Rules.{rules}
 use Rattle.lent_pod.proofs.clock_of.Goals.{Else-not-three_bytes, Else-not-three_bytes-2}
 use Rattle.lent_pod.proofs.clock_of.Goals as goal
 

@@ -5,7 +5,6 @@ use Rattle.commands.specs.declared.ReadAnswer.{ReadAnswer}
 use Rattle.commands.specs.Seen.{answer_seen}
 use Rattle.commands.proofs.Answers.{answer-seen}
 use Rattle.lent_pod.specs.Orders.{order_told}
-use borrow.Author.Rules.{rules}
 use Rattle.lent_pod.proofs.command_read.Goals as goal
 
 pub returns : goal.returns

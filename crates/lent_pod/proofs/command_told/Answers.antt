@@ -1,5 +1,4 @@
 -- `lent_pod::command_told`: the numbers of each command. Assumes nothing.
-use borrow.Author.Rules.{rules}
 use Rattle.lent_pod.proofs.command_told.Goals as goal
 
 pub returns-in-Reset : goal.returns-in-Reset

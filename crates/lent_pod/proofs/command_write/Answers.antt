@@ -1,14 +1,12 @@
 -- `lent_pod::command_write`: refusal by refusal, and then the library's answer. Assumes nothing.
 use mathlib.Core.Path.{◌≡◌, sym, ap, ◌∙◌}
 use mathlib.Core.Bool.{true}
-use borrow.Author.Tests.{not-true, not-false}
 use Rattle.model.specs.Pod.{well_formed}
 use Rattle.pod.specs.Seen.{seen as pod_seen}
 use Rattle.lent_pod.specs.Pods.{formed, unpacked}
 use Rattle.lent_pod.specs.Orders.{named, command_in}
 use Rattle.lent_pod.proofs.Forms.{formed-length}
 use Rattle.lent_pod.proofs.Orders.{names, names_none, write_shapeless, write_unformed, write_unnamed, write_asked}
-use borrow.Author.Rules.{rules}
 use Rattle.lent_pod.proofs.command_write.Goals.{After-well_formed-2, Else-not-formed, Else-not-well_formed}
 use Rattle.lent_pod.proofs.command_write.Goals as goal
 

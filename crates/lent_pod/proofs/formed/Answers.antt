@@ -2,7 +2,6 @@
 use lib.ListN.{length, get_or}
 use borrow.Author.Tests.{eq-eqb, ne_eqb, le-leb, lt-leb}
 use Rattle.lent_pod.specs.Pods.{formed}
-use borrow.Author.Rules.{rules}
 use Rattle.lent_pod.proofs.formed.Goals as goal
 
 pub returns-then-b-ne-POD : goal.returns-then-b-ne-POD

@@ -1,5 +1,4 @@
 -- `lent_pod::order_told`: the numbers of each answer. Assumes nothing.
-use borrow.Author.Rules.{rules}
 use Rattle.lent_pod.proofs.order_told.Goals as goal
 
 pub returns-in-Command : goal.returns-in-Command

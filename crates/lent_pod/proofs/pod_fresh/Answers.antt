@@ -6,7 +6,6 @@ use borrow.Author.Tests.{eq-eqb, ne_eqb}
 use Rattle.pod.specs.declared.PodState.{PodState}
 use Rattle.lent_pod.specs.Pods.{packed}
 use Rattle.lent_pod.proofs.Steps.{fresh-refused, fresh-made}
-use borrow.Author.Rules.{rules}
 use Rattle.lent_pod.proofs.pod_fresh.Goals as goal
 
 pub returns-then-state-ne-POD : goal.returns-then-state-ne-POD

@@ -1,12 +1,11 @@
 -- `lent_pod::pod_step`: by the form and the library's answer, a refusal or the next state's bytes. Assumes nothing.
 use mathlib.Core.Path.{◌≡◌, refl, sym, ◌∙◌, ap}
 use mathlib.Core.Bool.{true}
-use borrow.Author.Tests.{eq-eqb, ne_eqb, not-true, not-false}
+use borrow.Author.Tests.{eq-eqb, ne_eqb}
 use Rattle.pod.specs.Seen.{step_answer}
 use Rattle.lent_pod.specs.Pods.{formed, unpacked}
 use Rattle.lent_pod.proofs.Forms.{formed-length}
 use Rattle.lent_pod.proofs.Steps.{step_shapeless, step-turned, step-taken, few-held}
-use borrow.Author.Rules.{rules}
 use Rattle.lent_pod.proofs.pod_step.Goals.{After-step-a, Else-not-formed}
 use Rattle.lent_pod.proofs.pod_step.Goals as goal
 

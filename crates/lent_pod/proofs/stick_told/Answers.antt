@@ -1,6 +1,5 @@
 -- `lent_pod::stick_told`: its number, trigger and position. Assumes nothing.
 use Rattle.lent_pod.proofs.Lists.{bit-digit}
-use borrow.Author.Rules.{rules}
 use Rattle.lent_pod.proofs.stick_told.Goals as goal
 
 pub returns : goal.returns

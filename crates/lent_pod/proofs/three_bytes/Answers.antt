@@ -1,6 +1,5 @@
 -- `lent_pod::three_bytes`: one after the other. Assumes nothing.
 use borrow.Author.Tests.{le-leb, lt-leb}
-use borrow.Author.Rules.{rules}
 use Rattle.lent_pod.proofs.three_bytes.Goals as goal
 
 pub returns-then-a-gt-MOST_BYTE : goal.returns-then-a-gt-MOST_BYTE

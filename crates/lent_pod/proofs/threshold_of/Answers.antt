@@ -2,10 +2,8 @@
 use mathlib.Core.Path.{◌≡◌, sym, ◌∙◌}
 use mathlib.Core.Bool.{true}
 use native.Mathlib.Omega.{arith}
-use borrow.Author.Tests.{not-true, not-false}
 use Rattle.lent_pod.specs.Orders.{both_up_to}
 use Rattle.lent_pod.proofs.Orders.{both_fit}
-use borrow.Author.Rules.{rules}
 use Rattle.lent_pod.proofs.threshold_of.Goals.{Else-not-both_up_to}
 use Rattle.lent_pod.proofs.threshold_of.Goals as goal
 

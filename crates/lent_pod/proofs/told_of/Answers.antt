@@ -1,5 +1,4 @@
 -- `lent_pod::told_of`: the numbers of each answer. Assumes nothing.
-use borrow.Author.Rules.{rules}
 use Rattle.lent_pod.proofs.told_of.Goals as goal
 
 pub returns-in-More : goal.returns-in-More

@@ -1,6 +1,5 @@
 -- `lent_pod::unpacked`: what stands in its places. Assumes nothing.
 use native.Mathlib.Omega.{arith}
-use borrow.Author.Rules.{rules}
 use Rattle.lent_pod.proofs.unpacked.Goals as goal
 
 pub overflow_cast-result : goal.overflow_cast-result

@@ -6,7 +6,6 @@ use lib.ListN.{get_or}
 use native.Mathlib.Omega.{arith}
 use Rattle.lent_pod.specs.Orders.{command_by, named_by, held_named, named, command_in}
 use Rattle.lent_pod.proofs.Orders.{past}
-use borrow.Author.Rules.{rules}
 use Rattle.lent_pod.proofs.what_of.Goals as goal
 
 by_number : (ns : List ℕ) {k : ℕ} → k ≡ get_or ns 0 0 → held_named (named_by k ns) (command_by k ns) ≡ held_named (named ns) (command_in ns)

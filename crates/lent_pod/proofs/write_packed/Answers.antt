@@ -1,7 +1,6 @@
 -- `lent_pod::write_packed`: by the library's verdict, a refusal or the next state's bytes. Assumes nothing.
 use borrow.Author.Tests.{eq-eqb, ne_eqb}
 use Rattle.lent_pod.proofs.Orders.{few-written, asked-refused, asked_done}
-use borrow.Author.Rules.{rules}
 use Rattle.lent_pod.proofs.write_packed.Goals as goal
 
 pub pack-requires : goal.pack-requires

@@ -1,17 +1,13 @@
 -- `lent_pointer::apt` tells whether ranks and told numbers are as the table has them. Assumes nothing.
 use mathlib.Core.Path.{◌≡◌, sym, ap, ap₂, ◌∙◌}
-use mathlib.Core.Bool.{Bool, true, false, ◌&&◌}
-use mathlib.Core.List.{List}
-use Prim.Native.Nat.{ℕ}
+use mathlib.Core.Bool.{◌&&◌}
 use lib.Dec.{T}
 use lib.ListN.{get_or}
-use borrow.Author.Tests.{not-true, not-false}
 use Rattle.model.specs.Table.{ids}
 use Rattle.model.specs.Ranks.{good_ranks}
 use Rattle.model.specs.Pointer.{eq_pointer, pointed}
 use Rattle.model.specs.Pointing.{in_range}
 use Rattle.model.proofs.Bools.{holds}
-use Rattle.panel.specs.declared.Slot.{Slot}
 use Rattle.panel.specs.Seen.{table_of, fields_of, blank}
 use Rattle.panel.proofs.Slots.{fits_top}
 use Rattle.pointer.specs.Seen.{pointer_of}
@@ -19,7 +15,6 @@ use Rattle.pointer.specs.Moved.{shown_of}
 use Rattle.pointer.proofs.Numbers.{shown-is}
 use Rattle.lent.specs.Lent.{table_in}
 use Rattle.lent_table.proofs.Read.{full}
-use borrow.Author.Rules.{rules}
 use Rattle.lent_pointer.proofs.apt.Goals.{After-pointed-p, After-ranks_good}
 use Rattle.lent_pointer.proofs.apt.Goals as goal
 

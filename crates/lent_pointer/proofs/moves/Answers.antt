@@ -1,9 +1,7 @@
 -- `lent_pointer::moves` are the ranks after a frame, and what the display is to be told. Assumes nothing.
 use mathlib.Core.Path.{◌≡◌, sym, ap, ap₂, ◌∙◌}
-use mathlib.Core.List.{List}
 use lib.ListN.{length, get_or}
 use Rattle.model.specs.Panel.{records}
-use Rattle.panel.specs.declared.Slot.{Slot}
 use Rattle.panel.specs.Seen.{blank}
 use Rattle.pointer.specs.Seen.{pointer_of}
 use Rattle.pointer.specs.Moved.{shown_of, placed_at}

@@ -1,7 +1,6 @@
 -- `lent_reader::ask`: bytes that are not formed, and the answer of the state that they hold. Assumes nothing.
 use mathlib.Core.Path.{◌≡◌, refl, sym, ap, ◌∙◌, subst}
 use mathlib.Core.Bool.{true, false}
-use borrow.Author.Tests.{not-true, not-false}
 use Rattle.model.specs.Panel.{base}
 use Rattle.model.specs.Calls.{ask_call}
 use Rattle.reader.specs.States.{seen}
@@ -11,7 +10,6 @@ use Rattle.lent_reader.specs.Layout.{formed, unpacked}
 use Rattle.lent_reader.specs.Seen.{asked_row}
 use Rattle.lent_reader.proofs.Stored.{formed-room}
 use Rattle.lent_reader.proofs.Asked.{asked-few, ask_in}
-use borrow.Author.Rules.{rules}
 use Rattle.lent_reader.proofs.ask.Goals.{After-ask, Else-not-formed}
 use Rattle.lent_reader.proofs.ask.Goals as goal
 

@@ -1,6 +1,5 @@
 -- `lent_reader::begun`: the version, the kind and the mode. Assumes nothing.
 use mathlib.Core.Path.{refl}
-use borrow.Author.Rules.{rules}
 use Rattle.lent_reader.proofs.begun.Goals as goal
 
 pub returns : goal.returns

@@ -1,7 +1,6 @@
 -- `lent_reader::load`: bytes that are not formed, a refusal, and the loaded state stored. Assumes nothing.
 use mathlib.Core.Path.{◌≡◌, refl, sym, ap, ◌∙◌}
 use mathlib.Core.Bool.{true, false}
-use borrow.Author.Tests.{not-true, not-false}
 use Rattle.model.specs.Panel.{base}
 use Rattle.model.specs.Calls.{load_call}
 use Rattle.reader.specs.States.{seen}
@@ -9,7 +8,6 @@ use Rattle.reader.specs.Seen.{loaded_from}
 use Rattle.lent_reader.specs.Layout.{formed, unpacked}
 use Rattle.lent_reader.proofs.Stored.{formed-room, good-n, good-slot}
 use Rattle.lent_reader.proofs.Calls.{load_in, load-good, load-refused, load_stored}
-use borrow.Author.Rules.{rules}
 use Rattle.lent_reader.proofs.load.Goals.{After-load-loaded, Else-not-formed}
 use Rattle.lent_reader.proofs.load.Goals as goal
 

@@ -1,7 +1,6 @@
 -- `lent_reader::mode_of`: a byte past 1 is stale. Assumes nothing.
 use mathlib.Core.Path.{◌≡◌, refl}
 use Prim.Native.Nat.{ℕ, zero, suc}
-use borrow.Author.Rules.{rules}
 use Rattle.common.specs.declared.Mode.TheVariants.{Stale}
 use Rattle.lent_reader.specs.Layout.{mode_in}
 use Rattle.lent_reader.proofs.mode_of.Goals as goal

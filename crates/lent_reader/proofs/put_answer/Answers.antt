@@ -3,7 +3,6 @@ use mathlib.Core.Path.{◌≡◌, sym, ap, ◌∙◌, subst}
 use Rattle.reader.specs.declared.SlotAnswer.{SlotAnswer}
 use Rattle.reader.specs.Seen.{answer_seen, refusal_of}
 use Rattle.lent_reader.specs.Seen.{asked_row, Told}
-use borrow.Author.Rules.{rules}
 use Rattle.lent_reader.proofs.put_answer.Goals as goal
 
 told : {a b : SlotAnswer} → a ≡ b → (refusal_of b ≡ refusal_of a) × (asked_row (answer_seen b) ≡ asked_row (answer_seen a))

@@ -1,5 +1,4 @@
 -- `lent_reader::put_counts` sets the eight numbers that a run tells. Assumes nothing.
-use borrow.Author.Rules.{rules}
 use Rattle.lent_reader.proofs.put_counts.Goals as goal
 
 pub returns-in-None : goal.returns-in-None

@@ -4,7 +4,6 @@ use mathlib.Core.List.{[], ◌∷◌, append_assoc}
 use native.Mathlib.Omega.{arith}
 use lib.ListN.{take, drop, length-set}
 use lib.Seq.{sets-eq}
-use borrow.Author.Rules.{rules}
 use Rattle.model.specs.Records.{lay}
 use Rattle.lent_reader.specs.Layout.{version}
 use Rattle.lent_reader.proofs.put_head.Goals as goal

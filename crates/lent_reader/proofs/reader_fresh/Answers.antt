@@ -11,7 +11,6 @@ use Rattle.lent_reader.specs.Layout.{reader_size}
 use Rattle.lent_reader.specs.Seen.{setup_from}
 use Rattle.lent_reader.proofs.Stored.{good-n, good-slot}
 use Rattle.lent_reader.proofs.Calls.{fresh-good, fresh-refused, fresh_unfit, fresh-stored}
-use borrow.Author.Rules.{rules}
 use Rattle.lent_reader.proofs.reader_fresh.Goals.{After-number-number}
 use Rattle.lent_reader.proofs.reader_fresh.Goals as goal
 

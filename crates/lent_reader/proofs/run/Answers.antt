@@ -1,6 +1,5 @@
 -- `lent_reader::run`: bytes that are not formed, a state that is not good, records that are not whole, and the run. Assumes nothing.
-use borrow.Author.Rules.{rules}
-use borrow.Author.Tests.{not-true, not-false, ne_eqb, eq-eqb}
+use borrow.Author.Tests.{ne_eqb, eq-eqb}
 use mathlib.Core.Path.{◌≡◌, refl, sym, ◌∙◌}
 use mathlib.Core.Bool.{true, false}
 use Rattle.model.specs.Panel.{base}

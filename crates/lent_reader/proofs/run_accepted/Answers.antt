@@ -1,5 +1,4 @@
 -- `lent_reader::run_accepted`: a run of a good state, by its mode. Assumes nothing.
-use borrow.Author.Rules.{rules}
 use mathlib.Core.Path.{sym, ◌∙◌}
 use Rattle.lent_reader.proofs.run_accepted.Goals as goal
 

@@ -1,5 +1,4 @@
 -- `lent_reader::run_lost`: the mode moves, and every record is ignored. Assumes nothing.
-use borrow.Author.Rules.{rules}
 use mathlib.Core.Path.{◌∙◌}
 use Rattle.lent_reader.proofs.InPlace.{head_stored, lost_ends}
 use Rattle.lent_reader.proofs.run_lost.Goals as goal

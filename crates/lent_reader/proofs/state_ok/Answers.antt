@@ -1,6 +1,4 @@
 -- `lent_reader::state_ok`: whether the state that bytes hold is good, its setup first. Assumes nothing.
-use borrow.Author.Rules.{rules}
-use borrow.Author.Tests.{not-true, not-false}
 use mathlib.Core.Path.{◌≡◌, sym, ap, ◌∙◌}
 use Rattle.model.specs.Panel.{base, setup_good}
 use Rattle.model.specs.States.{good_reader}

@@ -1,9 +1,7 @@
 -- `lent_reader::tables_same`: the two tables, byte by byte. The loop has compared i bytes; that they are bytes is known once one was read. Assumes nothing.
-use borrow.Author.Rules.{rules}
 use Prim.Native.Nat.{◌-◌, ◌<◌}
-use native.Mathlib.Omega.{arith}
 use Rattle.lent.specs.Lent.{table_size, Bytes}
-use Rattle.lent_reader.proofs.Judged.{Compared, compared_none, compared_more, compared_all}
+use Rattle.lent_reader.proofs.Judged.{Compared}
 use Rattle.lent_reader.proofs.tables_same.Given as goal
 
 abbrev pub invariant-loop-i : goal.invariant-loop-i

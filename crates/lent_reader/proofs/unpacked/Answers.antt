@@ -1,5 +1,4 @@
 -- `lent_reader::unpacked` reads the parts of a state by their positions. Assumes nothing.
-use borrow.Author.Rules.{rules}
 use Rattle.lent_reader.proofs.unpacked.Goals as goal
 
 pub returns : goal.returns

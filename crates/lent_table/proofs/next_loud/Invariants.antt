@@ -1,16 +1,7 @@
 -- `lent_table::next_loud` is the first slot from a slot on whose row does not leave it as it is. The loop has passed the quiet rows before s. Assumes nothing.
-use mathlib.Core.Path.{◌≡◌, sym, ap₂, subst, ◌∙◌}
 use Prim.Native.Nat.{ℕ, ◌≤◌, ◌<◌, ◌-◌}
-use native.Mathlib.Omega.{arith}
-use mir.Syntax.{w32}
-use mir.Val.{SFits}
-use borrow.Author.Rules.{rules}
-use borrow.Author.Tests.{not-true, not-false}
-use Rattle.panel.specs.Seen.{row_of}
-use Rattle.plan.specs.Quiet.{quiet_row, quiet_at, Of32, QuietAt}
-use Rattle.plan.proofs.Still.{one_more}
+use Rattle.plan.specs.Quiet.{QuietAt}
 use Rattle.lent.specs.Lent.{table_in}
-use Rattle.lent_table.proofs.Read.{slot_is}
 use Rattle.lent_table.proofs.next_loud.Given as goal
 
 abbrev pub invariant-loop-s : goal.invariant-loop-s

@@ -3,16 +3,15 @@ use borrow.Author.Rules.{rules}
 use mathlib.Core.Path.{◌≡◌, refl, sym, ap, ap₂, ◌∙◌}
 use mathlib.Core.Bool.{Bool, ◌&&◌}
 use mathlib.Core.List.{List, [], ◌∷◌}
-use Prim.Native.Nat.{ℕ, ◌-◌, ◌+◌, ◌*◌, ◌<◌, ◌^◌}
+use Prim.Native.Nat.{ℕ, ◌+◌, ◌*◌, ◌<◌, ◌^◌}
 use native.Mathlib.Omega.{arith}
 use lib.Bits.{and_le_l}
 use lib.Dec.{eqb}
-use lib.ListN.{drop, get_or, get_or-replicate}
+use lib.ListN.{get_or, get_or-replicate}
 use Rattle.model.specs.Panel.{records}
-use Rattle.model.specs.Table.{eq_slot, eq_table}
+use Rattle.model.specs.Table.{eq_slot}
 use Rattle.common.proofs.Signs.{and-true}
-use Rattle.panel.specs.declared.Slot.{Slot}
-use Rattle.panel.specs.Seen.{slot_of, table_of, blank, unused, unused_all}
+use Rattle.panel.specs.Seen.{slot_of, blank, unused, unused_all}
 use Rattle.panel.proofs.Tables.{rest-none, same_turn, same_over}
 use Rattle.lent.specs.Lent.{slot_size, slot_in, table_in}
 use Rattle.lent_table.proofs.Gathered.{ones, none, idle, idle_more, ones_are}

@@ -1,22 +1,15 @@
 -- `lent_table::rest_unused` tells whether the records from n up were never used. The loop has gathered those below i. Assumes nothing.
-use borrow.Author.Rules.{rules}
-use mathlib.Core.Path.{◌≡◌, refl, sym, ap, ap₂, ◌∙◌}
+use mathlib.Core.Path.{◌≡◌}
 use mathlib.Core.Bool.{Bool, ◌&&◌}
 use mathlib.Core.List.{List, [], ◌∷◌}
-use Prim.Native.Nat.{ℕ, ◌-◌, ◌+◌, ◌*◌, ◌<◌, ◌^◌}
-use native.Mathlib.Omega.{arith}
-use lib.Bits.{and_le_l}
-use lib.Dec.{eqb}
-use lib.ListN.{drop, get_or, get_or-replicate}
+use Prim.Native.Nat.{ℕ, ◌-◌, ◌<◌, ◌^◌}
+use lib.ListN.{drop}
 use Rattle.model.specs.Panel.{records}
-use Rattle.model.specs.Table.{eq_slot, eq_table}
-use Rattle.common.proofs.Signs.{and-true}
+use Rattle.model.specs.Table.{eq_table}
 use Rattle.panel.specs.declared.Slot.{Slot}
-use Rattle.panel.specs.Seen.{slot_of, table_of, blank, unused, unused_all}
-use Rattle.panel.proofs.Tables.{rest-none, same_turn, same_over}
-use Rattle.lent.specs.Lent.{slot_size, slot_in, table_in}
-use Rattle.lent_table.proofs.Gathered.{ones, none, idle, idle_more, ones_are}
-use Rattle.lent_table.proofs.Read.{full, slot_is}
+use Rattle.panel.specs.Seen.{table_of, unused_all}
+use Rattle.lent.specs.Lent.{table_in}
+use Rattle.lent_table.proofs.Gathered.{idle}
 use Rattle.lent_table.proofs.rest_unused.Given as goal
 
 -- Whether the records from i on were never used.

@@ -1,5 +1,4 @@
 -- `lent_table::slot_of` reads the slot of that number. Assumes nothing.
-use borrow.Author.Rules.{rules}
 use mathlib.Core.Path.{◌∙◌}
 use Rattle.lent_table.proofs.Read.{slot_is}
 use Rattle.lent_table.proofs.slot_of.Goals as goal

@@ -1,10 +1,9 @@
 -- `lent_table::slots_judged` tells whether a lent table's slots are good, and says that live ids differ only where they do. The loop has passed the slots below j. Assumes nothing.
 use borrow.Author.Rules.{rules}
-use borrow.Author.Tests.{not-true, not-false, eqb-true}
+use borrow.Author.Tests.{eqb-true}
 use mathlib.Core.Path.{◌≡◌, refl, sym, ap, ◌∙◌, subst}
-use mathlib.Core.Bool.{Bool, true, false, ◌&&◌, false≢true}
-use mathlib.Core.List.{List}
-use Prim.Native.Nat.{ℕ, ◌≤◌, ◌<◌, ◌-◌, ◌+◌}
+use mathlib.Core.Bool.{true, ◌&&◌, false≢true}
+use Prim.Native.Nat.{◌≤◌, ◌<◌, ◌-◌, ◌+◌}
 use native.Mathlib.Omega.{arith}
 use lib.Bits.{bit_and}
 use lib.Dec.{eqb}
@@ -19,14 +18,12 @@ use Rattle.model.specs.Table.{good_slot, good_records}
 use Rattle.model.proofs.Bools.{and_left, and_right}
 use Rattle.common.specs.Seen.{natural}
 use Rattle.common.proofs.Signs.{and-true}
-use Rattle.common.proofs.Apart.{bit_of, Walked, dead_turn, free_turn, walk_over}
+use Rattle.common.proofs.Apart.{bit_of, dead_turn, free_turn, walk_over}
 use Rattle.panel.specs.declared.Slot.{Slot}
-use Rattle.panel.specs.declared.Setup.{Setup}
 use Rattle.panel.specs.Seen.{slot_of, table_of, fields_of, blank, unused, unused_all, SameFrom}
 use Rattle.panel.proofs.Tables.{good_parts, slots-turn, slots-over, same_over}
 use Rattle.lent.specs.Lent.{table_in}
 use Rattle.lent_table.proofs.Read.{full, slot_is}
-use Rattle.lent_table.proofs.slots_judged.Invariants.{Seen}
 use Rattle.lent_table.proofs.slots_judged.Goals.{After-same, After-slot_ok, At-loop-j, Start}
 use Rattle.lent_table.proofs.slots_judged.Goals as goal
 

@@ -1,15 +1,12 @@
 -- `lent_table::table_good` tells whether a lent table is as a state's should be. Assumes nothing.
-use borrow.Author.Rules.{rules}
 use borrow.Author.Tests.{not-true, not-false}
 use mathlib.Core.Path.{◌≡◌, sym, ap, ap₂, subst, ◌∙◌}
-use mathlib.Core.Bool.{Bool, true, ◌&&◌}
-use mathlib.Core.List.{List}
+use mathlib.Core.Bool.{true, ◌&&◌}
 use lib.ListN.{take}
 use Rattle.model.specs.Table.{good_records, ids_differ}
 use Rattle.model.proofs.Bools.{holds}
 use Rattle.model.proofs.Tables.{eq_table→eq}
 use Rattle.common.proofs.Signs.{and-false}
-use Rattle.panel.specs.declared.Slot.{Slot}
 use Rattle.panel.specs.Seen.{table_of, fields_of, unused_all, SameFrom}
 use Rattle.panel.proofs.Tables.{good_parts}
 use Rattle.lent.specs.Lent.{table_in}

@@ -1,14 +1,10 @@
 -- `lent_table::table_ok` tells whether a lent table is good, whatever its ids. Assumes nothing.
-use borrow.Author.Rules.{rules}
-use borrow.Author.Tests.{not-true, not-false}
-use mathlib.Core.Path.{◌≡◌, sym, ◌∙◌}
-use mathlib.Core.List.{List}
+use mathlib.Core.Path.{sym, ◌∙◌}
 use lib.ListN.{take}
 use Rattle.model.specs.Table.{good_records}
 use Rattle.model.proofs.Bools.{holds}
 use Rattle.model.proofs.Tables.{eq_table→eq}
 use Rattle.common.proofs.Signs.{and-false}
-use Rattle.panel.specs.declared.Slot.{Slot}
 use Rattle.panel.specs.Seen.{table_of, fields_of}
 use Rattle.panel.proofs.Tables.{good_parts}
 use Rattle.lent.specs.Lent.{table_in}

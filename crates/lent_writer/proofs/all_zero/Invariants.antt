@@ -1,13 +1,10 @@
 -- `lent_writer::all_zero` tells whether every rank is 0. The loop has looked at those below i. Assumes nothing.
-use mathlib.Core.Path.{◌≡◌, refl, sym, ap, ◌∙◌}
-use mathlib.Core.Bool.{not, ◌&&◌, and-true}
-use Prim.Native.Nat.{◌≤◌, ◌+◌, ◌-◌}
-use lib.Dec.{eqb}
-use lib.ListN.{drop, get_or}
+use mathlib.Core.Path.{◌≡◌}
+use mathlib.Core.Bool.{not, ◌&&◌}
+use Prim.Native.Nat.{◌≤◌, ◌-◌}
+use lib.ListN.{drop}
 use Rattle.model.specs.Panel.{records}
 use Rattle.model.specs.Pointing.{zeros}
-use Rattle.pointer.proofs.Numbers.{zeros-turn, zeros-over, neither}
-use borrow.Author.Rules.{rules}
 use Rattle.lent_writer.proofs.all_zero.Given as goal
 
 abbrev pub invariant-loop-i : goal.invariant-loop-i

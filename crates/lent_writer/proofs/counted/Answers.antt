@@ -1,5 +1,5 @@
 -- `lent_writer::counted` tells what a frame sends, and how many events that are. Assumes nothing.
-use mathlib.Core.Path.{◌≡◌, sym, ap, subst}
+use mathlib.Core.Path.{sym, ap, subst}
 use mathlib.Core.Bool.{Bool, true, false}
 use mathlib.Core.List.{List}
 use Prim.Native.Nat.{ℕ}
@@ -10,7 +10,6 @@ use Rattle.pointer.specs.Seen.{pointer_of}
 use Rattle.pointer.specs.Moved.{MovesBy, StillIf}
 use Rattle.lent.specs.Lent.{table_in}
 use Rattle.lent_writer.specs.Seen.{unpacked}
-use borrow.Author.Rules.{rules}
 use Rattle.lent_writer.proofs.counted.Goals as goal
 
 -- With the option off the display stays as it was told.

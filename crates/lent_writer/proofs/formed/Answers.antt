@@ -9,7 +9,6 @@ use borrow.Author.Tests.{eq-eqb, ne_eqb, lt-leb, le-leb}
 use Rattle.lent_writer.specs.Layout.{state_size, version, kind, version_at, kind_at, option_at, zero_at}
 use Rattle.lent_writer.specs.Seen.{byte_at}
 use Rattle.lent_writer.proofs.Forms.{formed_by}
-use borrow.Author.Rules.{rules}
 use Rattle.lent_writer.proofs.formed.Goals as goal
 
 abbrev at-version : List ℕ → Bool

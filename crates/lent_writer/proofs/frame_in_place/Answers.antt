@@ -1,21 +1,18 @@
 -- `lent_writer::frame_in_place` answers as the call by value does, over bytes of a good state. Assumes nothing.
 use mathlib.Core.Path.{◌≡◌, refl, sym, ap, subst, ◌∙◌}
-use mathlib.Core.Bool.{Bool, true, false}
-use mathlib.Core.List.{List}
+use mathlib.Core.Bool.{true, false}
 use Prim.Native.Nat.{ℕ, ◌*◌, ◌<◌, ◌≤◌}
 use native.Mathlib.Omega.{arith}
-use lib.IntN.{ℤ}
 use lib.ListN.{length}
-use borrow.Author.Tests.{ne_eqb, not-true, not-false}
+use borrow.Author.Tests.{ne_eqb}
 use Rattle.model.specs.Panel.{base, per_slot, records}
 use Rattle.model.specs.Frame.{sized, values_good}
 use Rattle.model.specs.Calls.{room_for}
-use Rattle.model.specs.Pointing.{pointer_good, pointer_need, pointer_call, pointer_buffer}
+use Rattle.model.specs.Pointing.{pointer_need, pointer_call, pointer_buffer}
 use Rattle.common.specs.declared.Verdict.TheVariants.{NoRoom}
 use Rattle.panel.specs.declared.Setup.{Setup}
 use Rattle.panel.specs.Seen.{panel_seen}
 use Rattle.plan.specs.Quiet.{QuietAt, FirstLoud}
-use Rattle.writer.specs.declared.WriterState.{WriterState}
 use Rattle.writer.specs.Seen.{seen, written_from, not_written_by, written_by, still_by}
 use Rattle.writer.proofs.States.{good-size}
 use Rattle.writer.proofs.Quiet.{still}
@@ -23,7 +20,6 @@ use Rattle.lent_writer.specs.Seen.{unpacked}
 use Rattle.lent_writer.specs.InPlace.{Loud}
 use Rattle.lent_writer.proofs.Back.{packed_back}
 use Rattle.lent_writer.proofs.Outcomes.{table_is, part-size, table-full, promised, not-sent, handed, refused_as, ready_as}
-use borrow.Author.Rules.{rules}
 use Rattle.lent_writer.proofs.frame_in_place.Goals.{After-next_loud-from, After-setup_at-setup, Else-from-setup}
 use Rattle.lent_writer.proofs.frame_in_place.Goals as goal
 

@@ -1,10 +1,10 @@
 -- `lent_writer::fresh` makes bytes a fresh state's, or leaves them. Assumes nothing.
 use mathlib.Core.Path.{◌≡◌, refl, sym, ap, ap₂, subst, ◌∙◌}
-use mathlib.Core.Bool.{Bool, true, false, ◌&&◌}
+use mathlib.Core.Bool.{true, false, ◌&&◌}
 use Prim.Native.Nat.{◌<◌, ◌^◌}
 use lib.Dec.{eqb, leb}
 use lib.ListN.{length}
-use borrow.Author.Tests.{not-true, not-false, eq-eqb, ne_eqb, lt-leb, le-leb}
+use borrow.Author.Tests.{eq-eqb, ne_eqb, lt-leb, le-leb}
 use Rattle.model.specs.Panel.{base, setup_good}
 use Rattle.model.specs.Pointing.{fresh_pointer_call}
 use Rattle.panel.specs.Seen.{setup_of}
@@ -13,7 +13,6 @@ use Rattle.writer.specs.Seen.{fresh_from}
 use Rattle.lent_writer.specs.Layout.{state_size}
 use Rattle.lent_writer.specs.Seen.{packed, setup_given}
 use Rattle.lent_writer.proofs.Told.{freshens, fresh-held}
-use borrow.Author.Rules.{rules}
 use Rattle.lent_writer.proofs.fresh.Goals.{After-setup_ok, Else-not-setup_ok}
 use Rattle.lent_writer.proofs.fresh.Goals as goal
 

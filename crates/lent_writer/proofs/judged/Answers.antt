@@ -1,11 +1,9 @@
 -- `lent_writer::judged` tells whether a state is well formed, test by test. Assumes nothing.
 use mathlib.Core.Path.{◌≡◌, refl, sym, ap, ap₂, subst, ◌∙◌}
 use mathlib.Core.Bool.{Bool, true, false, ◌&&◌}
-use mathlib.Core.List.{List}
-use Prim.Native.Nat.{ℕ}
 use native.Mathlib.Omega.{arith}
 use lib.Dec.{ltb}
-use borrow.Author.Tests.{not-true, not-false, le-ltb, lt-ltb}
+use borrow.Author.Tests.{le-ltb, lt-ltb}
 use Rattle.model.specs.Panel.{base, setup_good, id_count}
 use Rattle.model.specs.Table.{ids_differ, good_records}
 use Rattle.model.specs.Pointing.{good_pointing}
@@ -16,11 +14,9 @@ use Rattle.panel.proofs.Setups.{small}
 use Rattle.panel.proofs.Tables.{good-rest}
 use Rattle.pointer.specs.Seen.{pointing_of}
 use Rattle.pointer.specs.Moved.{Unused}
-use Rattle.writer.specs.declared.WriterState.{WriterState}
 use Rattle.writer.proofs.States.{pointing_good, good_by}
 use Rattle.lent_writer.specs.Seen.{unpacked}
 use Rattle.lent_writer.proofs.Outcomes.{table_is, part-size, table-full}
-use borrow.Author.Rules.{rules}
 use Rattle.lent_writer.proofs.judged.Goals.{After-setup_ok, After-table_good, After-wide, Else-not-setup_ok, Else-not-table_good, Else-setup-wide, Start}
 use Rattle.lent_writer.proofs.judged.Goals as goal
 

@@ -1,5 +1,4 @@
 -- `lent_writer::last_of` are a state's ranks, and what it told. Assumes nothing.
-use borrow.Author.Rules.{rules}
 use Rattle.lent_writer.proofs.last_of.Goals as goal
 
 pub returns : goal.returns

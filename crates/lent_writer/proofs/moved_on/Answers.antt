@@ -1,5 +1,5 @@
 -- `lent_writer::moved_on` are ranks and display after a frame, by the option. Assumes nothing.
-use mathlib.Core.Path.{◌≡◌, sym, subst}
+use mathlib.Core.Path.{sym, subst}
 use borrow.Author.Tests.{eq-eqb, ne_eqb}
 use Rattle.pointer.specs.declared.Moved.{Moved}
 use Rattle.pointer.specs.Moved.{Moving, MovesTo, MovingIf, MovesBy}
@@ -9,7 +9,6 @@ use Rattle.lent_writer.specs.Layout.{option_at}
 use Rattle.lent_writer.specs.Seen.{byte_at, unpacked}
 use Rattle.lent_writer.specs.InPlace.{table_part}
 use Rattle.lent_writer.proofs.Outcomes.{table_is, part-size}
-use borrow.Author.Rules.{rules}
 use Rattle.lent_writer.proofs.moved_on.Goals as goal
 
 pub moves-requires : goal.moves-requires

@@ -13,7 +13,6 @@ use Rattle.pointer.specs.Moved.{Unused}
 use Rattle.lent_writer.specs.Layout.{option_at, ranks_at}
 use Rattle.lent_writer.specs.Seen.{byte_at, told_in, ranks_in, unpacked}
 use Rattle.lent_writer.proofs.Outcomes.{table_is, part-size}
-use borrow.Author.Rules.{rules}
 use Rattle.lent_writer.proofs.pointing_ok.Goals as goal
 
 pub apt-requires : goal.apt-requires

@@ -6,7 +6,6 @@ use lib.ListN.{set, length-set}
 use lib.Seq.{sets-eq}
 use Rattle.model.specs.Records.{lay}
 use Rattle.lent_writer.specs.Seen.{head_bytes}
-use borrow.Author.Rules.{rules}
 use Rattle.lent_writer.proofs.put_head.Goals as goal
 
 pub bounds-b-4 : goal.bounds-b-4

@@ -1,7 +1,6 @@
 -- `lent_writer::put_numbers` stores the setup and the numbers behind it. Assumes nothing.
 use native.Mathlib.Omega.{arith}
 use Rattle.lent_writer.proofs.Stored.{numbers-stored}
-use borrow.Author.Rules.{rules}
 use Rattle.lent_writer.proofs.put_numbers.Goals as goal
 
 pub returns : goal.returns

@@ -1,7 +1,7 @@
 -- `lent_writer::send_all` writes BTN_TOUCH, the changed slots' events, what else the display is told and the report, one behind the other. Assumes nothing.
-use mathlib.Core.Path.{◌≡◌, sym, ap, subst, ◌∙◌}
-use mathlib.Core.List.{List, ◌++◌, append_assoc}
-use Prim.Native.Nat.{ℕ, ◌+◌, ◌≤◌}
+use mathlib.Core.Path.{sym, ap, subst, ◌∙◌}
+use mathlib.Core.List.{◌++◌, append_assoc}
+use Prim.Native.Nat.{◌+◌, ◌≤◌}
 use native.Mathlib.Omega.{arith}
 use lib.ListN.{length, length-append}
 use Rattle.model.specs.Records.{lay}
@@ -9,7 +9,6 @@ use Rattle.send.specs.Sent.{bytes_sent, sent_by}
 use Rattle.send.specs.Told.{touch_bytes, end_bytes}
 use Rattle.send.proofs.Parts.{Begun, begins}
 use Rattle.lent.specs.Lent.{table_in}
-use borrow.Author.Rules.{rules}
 use Rattle.lent_writer.proofs.send_all.Goals.{After-send_slots-sent, After-send_touch-start}
 use Rattle.lent_writer.proofs.send_all.Goals as goal
 

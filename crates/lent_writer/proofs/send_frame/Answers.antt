@@ -5,13 +5,11 @@ use mathlib.Core.List.{List, ◌++◌}
 use Prim.Native.Nat.{ℕ, ◌+◌, ◌-◌, ◌*◌, ◌^◌, ◌≤◌}
 use native.Mathlib.Omega.{arith}
 use lib.Bits.{bit_and}
-use lib.IntN.{ℤ}
 use lib.ListN.{length, drop, length-drop}
 use lib.Seq.{length-take-le}
 use borrow.Author.Tests.{eq-eqb, not-true, not-false}
 use Rattle.model.specs.Panel.{base, per_slot, records}
 use Rattle.model.specs.Records.{lay}
-use Rattle.model.specs.Frame as F
 use Rattle.model.specs.Frame.{rows_from, values_good, framed}
 use Rattle.model.specs.Sending.{last_opened, others_mask}
 use Rattle.model.specs.Calls.{room_for}
@@ -21,7 +19,6 @@ use Rattle.common.specs.declared.Verdict.TheVariants.{NoRoom}
 use Rattle.panel.specs.declared.Slot.{Slot}
 use Rattle.panel.specs.declared.Setup.{Setup}
 use Rattle.panel.specs.Seen.{table_of, panel_seen}
-use Rattle.plan.specs.declared.Planned.{Planned}
 use Rattle.plan.specs.Walk.{Plans}
 use Rattle.tally.proofs.Told.{others-told, events-told}
 use Rattle.pointer.specs.declared.Pointer.{Pointer}
@@ -38,11 +35,9 @@ use Rattle.writer.proofs.Accepted.{PlannedFrame, Known, moving, refused_by, room
 use Rattle.writer.proofs.Quiet.{handed_back}
 use Rattle.lent.specs.Lent.{table_size, table_in, table_bytes}
 use Rattle.lent.proofs.Tables.{slots_length, table-length}
-use Rattle.lent_plan.specs.declared.Plan.{Plan}
 use Rattle.lent_plan.specs.InPlace.{PlansIn, with_table}
 use Rattle.lent_plan.proofs.Unique.{verdict_of}
-use Rattle.lent_writer.specs.declared.Telling.{Telling}
-use Rattle.lent_writer.specs.Layout.{state_size, ranks_at}
+use Rattle.lent_writer.specs.Layout.{ranks_at}
 use Rattle.lent_writer.specs.Seen.{unpacked, packed, told_of}
 use Rattle.lent_writer.specs.InPlace.{table_part, MovesOn, ToldBy, changed_to}
 use Rattle.lent_writer.proofs.Back.{packed_back, moved_in_place}

@@ -4,7 +4,6 @@ use mathlib.Core.Bool.{true, false, cond}
 use borrow.Author.Tests.{eq-eqb, ne_eqb}
 use Rattle.common.specs.Seen.{verdict_number}
 use Rattle.lent_writer.specs.Seen.{packed, accepted}
-use borrow.Author.Rules.{rules}
 use Rattle.lent_writer.proofs.settle.Goals.{Else-number-ne0}
 use Rattle.lent_writer.proofs.settle.Goals as goal
 

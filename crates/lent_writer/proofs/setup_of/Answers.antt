@@ -1,7 +1,6 @@
 -- `lent_writer::setup_of` takes six numbers for a setup. Assumes nothing.
 use mathlib.Core.Path.{ap}
 use lib.ListN.{get_or}
-use borrow.Author.Rules.{rules}
 use Rattle.lent_writer.proofs.setup_of.Goals as goal
 
 pub returns : goal.returns

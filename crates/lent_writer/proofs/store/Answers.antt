@@ -8,7 +8,6 @@ use Rattle.lent_writer.specs.Layout.{counter_at}
 use Rattle.lent_writer.specs.Seen.{unpacked}
 use Rattle.lent_writer.proofs.Back.{packed_back, table_long, table-held, stored_in_place}
 use Rattle.lent_writer.proofs.Outcomes.{part-size, table_is}
-use borrow.Author.Rules.{rules}
 use Rattle.lent_writer.proofs.store.Goals as goal
 
 pub keep-requires : goal.keep-requires

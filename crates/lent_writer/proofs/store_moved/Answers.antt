@@ -1,5 +1,5 @@
 -- `lent_writer::store_moved` stores ranks and what the display is told, where the option is on. Assumes nothing.
-use mathlib.Core.Path.{◌≡◌, sym, ap, ◌∙◌}
+use mathlib.Core.Path.{sym, ap, ◌∙◌}
 use mathlib.Core.Bool.{true, cond}
 use mathlib.Core.List.{List}
 use Prim.Native.Nat.{ℕ}
@@ -8,7 +8,6 @@ use Rattle.model.specs.Records.{low_bytes, lay}
 use Rattle.pointer.specs.declared.Moved.{Moved}
 use Rattle.lent_writer.specs.Layout.{option_at, x_at, y_at, ranks_at}
 use Rattle.lent_writer.specs.Seen.{byte_at, head_bytes}
-use borrow.Author.Rules.{rules}
 use Rattle.lent_writer.proofs.store_moved.Goals as goal
 
 -- All that is stored with the option on.

@@ -1,6 +1,5 @@
 -- `lent_writer::told_at` reads what an old display was told last. Assumes nothing.
 use lib.ListN.{get_or}
-use borrow.Author.Rules.{rules}
 use Rattle.lent_writer.proofs.told_at.Goals as goal
 
 pub returns : goal.returns

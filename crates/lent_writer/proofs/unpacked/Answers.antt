@@ -2,7 +2,6 @@
 use lib.Dec.{eqb}
 use Rattle.lent_writer.specs.Layout.{option_at}
 use Rattle.lent_writer.specs.Seen.{byte_at}
-use borrow.Author.Rules.{rules}
 use Rattle.lent_writer.proofs.unpacked.Goals as goal
 
 pub returns : goal.returns

@@ -3,7 +3,6 @@ use mathlib.Core.Path.{ap₂}
 use mathlib.Core.Bool.{◌&&◌}
 use Rattle.model.specs.Pointer.{unmoved, eq_pointer}
 use Rattle.pointer.specs.Seen.{pointer_of}
-use borrow.Author.Rules.{rules}
 use Rattle.lent_writer.proofs.untold.Goals as goal
 
 pub returns : goal.returns

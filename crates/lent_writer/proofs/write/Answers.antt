@@ -1,11 +1,9 @@
 -- `lent_writer::write` answers as the call by value does, over bytes that are a state's. Assumes nothing.
 use mathlib.Core.Path.{◌≡◌, sym, ◌∙◌}
 use mathlib.Core.Bool.{true}
-use borrow.Author.Tests.{not-true, not-false}
 use Rattle.lent_writer.specs.Seen.{formed}
 use Rattle.lent_writer.proofs.Forms.{form}
 use Rattle.lent_writer.proofs.Told.{frame_refused}
-use borrow.Author.Rules.{rules}
 use Rattle.lent_writer.proofs.write.Goals.{Else-not-formed}
 use Rattle.lent_writer.proofs.write.Goals as goal
 

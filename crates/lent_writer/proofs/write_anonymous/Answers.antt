@@ -7,17 +7,15 @@ use native.Mathlib.Omega.{arith}
 use lib.ListN.{length}
 use lib.Seq.{length-take-le}
 use borrow.Author.Rules.{rules}
-use borrow.Author.Tests.{eq-eqb, ne_eqb, not-true, not-false}
+use borrow.Author.Tests.{eq-eqb, ne_eqb}
 use Rattle.model.specs.Panel.{base, per_slot, records}
 use Rattle.model.specs.Calls as C
 use Rattle.model.specs.Calls.{is_accepted}
 use Rattle.model.specs.Pointing.{pointer_good}
 use Rattle.model.specs.Anonymous.{anonymous_verdict}
 use Rattle.panel.specs.Seen.{panel_seen}
-use Rattle.writer.specs.declared.WriterState.{WriterState}
 use Rattle.writer.specs.Seen.{seen}
 use Rattle.writer.proofs.States.{good-setup, good-size, good-slots}
-use Rattle.anonymous.specs.declared.Framed.{Framed}
 use Rattle.anonymous.specs.Framed.{Fit, records_verdict, framed_from}
 use Rattle.anonymous.proofs.Outcome.{state-bad, state-good, numbered, size-read, frame-read}
 use Rattle.lent_writer.specs.Seen.{formed, unpacked}

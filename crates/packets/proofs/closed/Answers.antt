@@ -3,7 +3,6 @@ use mathlib.Core.Path.{sym, ◌∙◌}
 use borrow.Author.Tests.{not-true, not-false}
 use Rattle.packets.specs.Walk.{walk_of}
 use Rattle.packets.proofs.Steps.{closes_contact, closes_none}
-use borrow.Author.Rules.{rules}
 use Rattle.packets.proofs.closed.Goals as goal
 
 pub returns-then-begun : goal.returns-then-begun

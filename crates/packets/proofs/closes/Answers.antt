@@ -1,5 +1,4 @@
 -- `packets::closes`: only SYN_MT_REPORT closes a contact, and only where a number was told. Assumes nothing.
-use borrow.Author.Rules.{rules}
 use Rattle.packets.proofs.closes.Goals as goal
 
 pub returns-in-Close : goal.returns-in-Close

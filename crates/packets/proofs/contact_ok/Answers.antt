@@ -3,7 +3,6 @@ use mathlib.Core.Path.{◌∙◌}
 use mir.Syntax.{w32}
 use mir.ValLaws.{to_z-of_z}
 use Rattle.packets.proofs.Steps.{row_same}
-use borrow.Author.Rules.{rules}
 use Rattle.packets.proofs.contact_ok.Goals as goal
 
 pub returns : goal.returns

@@ -1,7 +1,6 @@
 -- `packets::finished`: the answer at the end of the walk. Assumes nothing.
 use Rattle.packets.specs.Walk.{walk_of}
 use Rattle.packets.proofs.Steps.{ended_as}
-use borrow.Author.Rules.{rules}
 use Rattle.packets.proofs.finished.Goals as goal
 
 pub returns : goal.returns

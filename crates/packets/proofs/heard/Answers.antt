@@ -1,5 +1,4 @@
 -- `packets::heard`: one record more in the walk. Assumes nothing.
-use borrow.Author.Rules.{rules}
 use Rattle.packets.proofs.heard.Goals as goal
 
 pub returns-in-Skipped : goal.returns-in-Skipped

@@ -3,7 +3,6 @@ use Prim.Native.Nat.{◌-◌}
 use mathlib.Core.Path.{ap}
 use native.Mathlib.Omega.{arith}
 use Rattle.pairing.proofs.Sets.{power, power_some, power_small}
-use borrow.Author.Rules.{rules}
 use Rattle.pairing.proofs.all_of.Goals as goal
 
 pub overflow_sub-result : goal.overflow_sub-result

@@ -1,11 +1,10 @@
 -- `pairing::cell` meets its contract. The invariant: of the choices from c on the best is known. Assumes nothing.
 use mathlib.Core.Path.{◌≡◌, refl}
-use Prim.Native.Nat.{suc, ◌-◌, ◌<◌, ◌≤◌}
+use Prim.Native.Nat.{suc, ◌-◌, ◌<◌}
 use native.Mathlib.Omega.{arith}
-use borrow.Author.Rules.{rules}
 use Rattle.pairing.specs.Cells.{choosable, value}
 use Rattle.pairing.proofs.Sets.{power, bit_le}
-use Rattle.pairing.proofs.Reach.{Reach, shifted, finish, reach_start, reach_used, reach_kept, reach_taken}
+use Rattle.pairing.proofs.Reach.{shifted, finish, reach_start, reach_used, reach_kept, reach_taken}
 use Rattle.pairing.proofs.cell.Goals as goal
 
 pub overflow_add-best : goal.overflow_add-best

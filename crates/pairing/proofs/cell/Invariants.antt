@@ -1,11 +1,7 @@
 -- `pairing::cell` meets its contract. The invariant: of the choices from c on the best is known. Assumes nothing.
-use mathlib.Core.Path.{◌≡◌, refl}
-use Prim.Native.Nat.{suc, ◌-◌, ◌<◌, ◌≤◌}
-use native.Mathlib.Omega.{arith}
-use borrow.Author.Rules.{rules}
+use Prim.Native.Nat.{◌≤◌}
 use Rattle.pairing.specs.Cells.{choosable, value}
-use Rattle.pairing.proofs.Sets.{power, bit_le}
-use Rattle.pairing.proofs.Reach.{Reach, shifted, finish, reach_start, reach_used, reach_kept, reach_taken}
+use Rattle.pairing.proofs.Reach.{Reach}
 use Rattle.pairing.proofs.cell.Given as goal
 
 abbrev pub invariant-loop-c : goal.invariant-loop-c

@@ -3,7 +3,6 @@ use mathlib.Core.Path.{ap, ap₂, ◌∙◌}
 use Prim.Native.Nat.{◌+◌, ◌*◌}
 use native.Mathlib.Omega.{arith}
 use Rattle.model.specs.Pairing.{distance}
-use borrow.Author.Rules.{rules}
 use Rattle.pairing.proofs.distance_of.Goals as goal
 
 pub returns : goal.returns

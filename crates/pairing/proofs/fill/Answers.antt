@@ -2,9 +2,8 @@
 use mathlib.Core.Path.{◌≡◌}
 use Prim.Native.Nat.{suc, ◌-◌, ◌<◌}
 use native.Mathlib.Omega.{arith}
-use borrow.Author.Rules.{rules}
 use Rattle.model.specs.Pairing.{points}
-use Rattle.pairing.proofs.Filled.{Filled, filled_start, filled_low, filled_next, filled_move}
+use Rattle.pairing.proofs.Filled.{filled_start, filled_low, filled_next, filled_move}
 use Rattle.pairing.proofs.fill.Goals as goal
 
 pub all_of-all-requires : goal.all_of-all-requires

@@ -1,10 +1,6 @@
 -- `pairing::fill` meets its contract. The invariant: the tables are those of the old contacts from i on. Assumes nothing.
-use mathlib.Core.Path.{◌≡◌}
-use Prim.Native.Nat.{suc, ◌-◌, ◌<◌}
-use native.Mathlib.Omega.{arith}
-use borrow.Author.Rules.{rules}
 use Rattle.model.specs.Pairing.{points}
-use Rattle.pairing.proofs.Filled.{Filled, filled_start, filled_low, filled_next, filled_move}
+use Rattle.pairing.proofs.Filled.{Filled}
 use Rattle.pairing.proofs.fill.Given as goal
 
 abbrev pub invariant-loop-i : goal.invariant-loop-i

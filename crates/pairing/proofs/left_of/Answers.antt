@@ -1,13 +1,11 @@
 -- `pairing::left_of` meets its contract. The invariant: those below c that are left over stand in front. Assumes nothing.
 use mathlib.Core.Path.{◌≡◌, sym, ap, ◌∙◌}
 use mathlib.Core.Bool.{true, false}
-use Prim.Native.Nat.{◌-◌, ◌<◌}
+use Prim.Native.Nat.{◌<◌}
 use native.Mathlib.Omega.{arith}
 use lib.ListN.{get_or}
-use borrow.Author.Rules.{rules}
-use borrow.Author.Tests.{not-true, not-false}
 use Rattle.pairing.proofs.Marks.{mark-at}
-use Rattle.pairing.proofs.Lefts.{Lefts, lefts_start, lefts_paired, lefts_more, lefts_end}
+use Rattle.pairing.proofs.Lefts.{lefts_start, lefts_paired, lefts_more, lefts_end}
 use Rattle.pairing.proofs.left_of.Goals as goal
 
 pub marks_of-marks-requires : goal.marks_of-marks-requires

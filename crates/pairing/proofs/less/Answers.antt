@@ -4,7 +4,6 @@ use mathlib.Core.Bool.{true, ◌||◌}
 use Prim.Native.Nat.{◌-◌, ◌/◌, ◌%◌, ◌^◌, ◌<◌}
 use native.Mathlib.Omega.{arith}
 use lib.Dec.{eqb}
-use borrow.Author.Rules.{rules}
 use borrow.Author.Tests.{eq-eqb, ne_eqb, eqb-true}
 use Rattle.model.specs.Pairing.{alone}
 use Rattle.pairing.specs.Cells.{holds}

@@ -1,10 +1,6 @@
 -- `pairing::marks_of` meets its contract. The invariant: what is marked is what the first i numbers hold. Assumes nothing.
-use mathlib.Core.Path.{◌≡◌, refl}
-use Prim.Native.Nat.{◌-◌, ◌≤◌}
+use mathlib.Core.Path.{refl}
 use native.Mathlib.Omega.{arith}
-use lib.ListN.{take}
-use borrow.Author.Rules.{rules}
-use Rattle.pairing.specs.Cells.{marks}
 use Rattle.pairing.proofs.Marks.{mark-next, mark_end}
 use Rattle.pairing.proofs.marks_of.Goals as goal
 

@@ -1,5 +1,4 @@
 -- `pairing::offers` meets its contract. Assumes nothing.
-use borrow.Author.Rules.{rules}
 use Rattle.pairing.proofs.Offering.{offered}
 use Rattle.pairing.proofs.offers.Goals as goal
 

@@ -1,9 +1,6 @@
 -- `pairing::pair_up` meets its contract. The invariant: the first i contacts have their choices, and those that are left find the rest. Assumes nothing.
-use Prim.Native.Nat.{◌-◌}
 use native.Mathlib.Omega.{arith}
-use borrow.Author.Rules.{rules}
-use Rattle.model.specs.Pairing.{points}
-use Rattle.pairing.proofs.Walked.{Walked, walked_start, walked_le, walked_choosable, walked_next, walked_end}
+use Rattle.pairing.proofs.Walked.{walked_start, walked_le, walked_choosable, walked_next, walked_end}
 use Rattle.pairing.proofs.pair_up.Goals as goal
 
 pub fill-made-requires : goal.fill-made-requires

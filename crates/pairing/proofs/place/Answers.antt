@@ -3,9 +3,8 @@ use mathlib.Core.Path.{◌≡◌}
 use Prim.Native.Nat.{◌-◌}
 use native.Mathlib.Omega.{arith}
 use lib.ListN.{length}
-use borrow.Author.Rules.{rules}
 use Rattle.model.specs.Pairing.{left_over}
-use Rattle.pairing.proofs.Placing.{Placing, placing_start, placing_old, placing_new, placing_end, placed-is, left-size}
+use Rattle.pairing.proofs.Placing.{placing_start, placing_old, placing_new, placing_end, placed-is, left-size}
 use Rattle.pairing.proofs.place.Goals.{After-left_of-left}
 use Rattle.pairing.proofs.place.Goals as goal
 

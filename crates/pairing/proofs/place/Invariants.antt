@@ -1,11 +1,6 @@
 -- `pairing::place` meets its contract. The invariant: the slots before this one have their contacts. Assumes nothing.
-use mathlib.Core.Path.{◌≡◌}
 use Prim.Native.Nat.{◌-◌}
-use native.Mathlib.Omega.{arith}
-use lib.ListN.{length}
-use borrow.Author.Rules.{rules}
-use Rattle.model.specs.Pairing.{left_over}
-use Rattle.pairing.proofs.Placing.{Placing, placing_start, placing_old, placing_new, placing_end, placed-is, left-size}
+use Rattle.pairing.proofs.Placing.{Placing}
 use Rattle.pairing.proofs.place.Given as goal
 
 abbrev pub invariant-loop-slot : goal.invariant-loop-slot

@@ -1,8 +1,7 @@
 -- `pairing::turn` meets its contract. The invariant: the sets from `free` on are made, and the smaller ones as they were. Assumes nothing.
 use Prim.Native.Nat.{◌-◌}
 use native.Mathlib.Omega.{arith}
-use borrow.Author.Rules.{rules}
-use Rattle.pairing.proofs.Rows.{Part, part-start, part_low, part-next, part_end}
+use Rattle.pairing.proofs.Rows.{part-start, part_low, part-next, part_end}
 use Rattle.pairing.proofs.turn.Goals as goal
 
 pub loop-free-init : goal.loop-free-init

@@ -1,8 +1,5 @@
 -- `pairing::turn` meets its contract. The invariant: the sets from `free` on are made, and the smaller ones as they were. Assumes nothing.
-use Prim.Native.Nat.{◌-◌}
-use native.Mathlib.Omega.{arith}
-use borrow.Author.Rules.{rules}
-use Rattle.pairing.proofs.Rows.{Part, part-start, part_low, part-next, part_end}
+use Rattle.pairing.proofs.Rows.{Part}
 use Rattle.pairing.proofs.turn.Given as goal
 
 abbrev pub invariant-loop-free : goal.invariant-loop-free

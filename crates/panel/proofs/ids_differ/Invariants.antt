@@ -1,23 +1,9 @@
 -- `panel::ids_differ` tells whether the live ids differ. Assumes nothing.
-use borrow.Author.Rules.{rules}
-use borrow.Author.Tests.{not-true, not-false}
-use mathlib.Core.Path.{◌≡◌, refl, sym, ap, ◌∙◌}
-use mathlib.Core.Bool.{false}
 use mathlib.Core.List.{List}
-use Prim.Native.Nat.{ℕ, ◌≤◌, ◌<◌, ◌-◌}
-use native.Mathlib.Omega.{arith}
-use lib.IntN.{ℤ}
-use lib.ListN.{take, get_or, length}
-use mir.Syntax.{w32}
-use mir.Val.{SFits, to_z, of_z}
-use mir.ValLaws.{to_z-of_z}
-use Rattle.model.specs.Panel.{records}
-use Rattle.model.specs.Numbers.{eq_z, minus_one}
-use Rattle.model.specs.Table.{ids, unheld}
+use Prim.Native.Nat.{ℕ, ◌≤◌, ◌-◌}
 use Rattle.panel.specs.declared.Slot.{Slot}
-use Rattle.common.specs.Seen.{natural}
-use Rattle.panel.specs.Seen.{slot_of, table_of, blank, unused}
-use Rattle.common.proofs.Apart.{Walked, dead_turn, free_turn, met-turn, clash_turn, walk_over}
+use Rattle.panel.specs.Seen.{slot_of}
+use Rattle.common.proofs.Apart.{Walked}
 use Rattle.panel.proofs.ids_differ.Given as goal
 
 -- The first k slots are walked over.

@@ -1,31 +1,27 @@
 -- `panel::records_judged` tells whether a table's records are good, and says that live ids differ only where they do. The first loop has passed the records from n to `past`, the second the slots below j. Assumes nothing.
 use borrow.Author.Rules.{rules}
-use borrow.Author.Tests.{not-true, not-false, eqb-true}
+use borrow.Author.Tests.{eqb-true}
 use mathlib.Core.Path.{◌≡◌, refl, sym, ap, ◌∙◌, subst}
 use mathlib.Core.Bool.{Bool, true, false, ◌&&◌, false≢true}
-use mathlib.Core.List.{List}
-use Prim.Native.Nat.{ℕ, ◌≤◌, ◌<◌, ◌-◌, ◌+◌}
+use Prim.Native.Nat.{◌≤◌, ◌<◌, ◌-◌, ◌+◌}
 use native.Mathlib.Omega.{arith}
 use lib.Bits.{bit_and}
 use lib.Dec.{eqb}
-use lib.IntN.{ℤ}
 use lib.ListN.{take, drop, get_or, get_or-replicate, length}
 use mir.Syntax.{w32}
 use mir.Val.{SFits, to_z, of_z}
 use mir.ValLaws.{to_z-of_z}
 use Rattle.model.specs.Panel.{records}
 use Rattle.model.specs.Numbers.{eq_z, minus_one}
-use Rattle.model.specs.Table.{eq_slot, eq_table, good_records}
+use Rattle.model.specs.Table.{eq_slot, good_records}
 use Rattle.model.proofs.Bools.{holds}
 use Rattle.model.proofs.Tables.{eq_table→eq}
-use Rattle.panel.specs.declared.Slot.{Slot}
-use Rattle.panel.specs.declared.Setup.{Setup}
 use Rattle.common.specs.Seen.{natural}
 use Rattle.panel.specs.Seen.{slot_of, table_of, fields_of, blank, unused, unused_all, SameFrom}
 use Rattle.common.proofs.Signs.{and-false, and-true}
-use Rattle.common.proofs.Apart.{bit_of, Walked, dead_turn, free_turn, walk_over}
+use Rattle.common.proofs.Apart.{bit_of, dead_turn, free_turn, walk_over}
 use Rattle.panel.proofs.Tables.{good_parts, slots-turn, slots-over, rest-none, same_turn, same_over}
-use Rattle.panel.proofs.records_judged.Invariants.{Seen, rest_good}
+use Rattle.panel.proofs.records_judged.Invariants.{rest_good}
 use Rattle.panel.proofs.records_judged.Goals.{After-loop-past, After-same, After-slot_ok, After-slot_unused, Start}
 use Rattle.panel.proofs.records_judged.Goals as goal
 

@@ -1,30 +1,15 @@
 -- `panel::records_judged` tells whether a table's records are good, and says that live ids differ only where they do. The first loop has passed the records from n to `past`, the second the slots below j. Assumes nothing.
-use borrow.Author.Rules.{rules}
-use borrow.Author.Tests.{not-true, not-false, eqb-true}
-use mathlib.Core.Path.{◌≡◌, refl, sym, ap, ◌∙◌, subst}
-use mathlib.Core.Bool.{Bool, true, false, ◌&&◌, false≢true}
+use mathlib.Core.Path.{◌≡◌}
+use mathlib.Core.Bool.{Bool, true}
 use mathlib.Core.List.{List}
-use Prim.Native.Nat.{ℕ, ◌≤◌, ◌<◌, ◌-◌, ◌+◌}
-use native.Mathlib.Omega.{arith}
-use lib.Bits.{bit_and}
-use lib.Dec.{eqb}
-use lib.IntN.{ℤ}
-use lib.ListN.{take, drop, get_or, get_or-replicate, length}
-use mir.Syntax.{w32}
-use mir.Val.{SFits, to_z, of_z}
-use mir.ValLaws.{to_z-of_z}
+use Prim.Native.Nat.{ℕ, ◌≤◌, ◌-◌}
+use lib.ListN.{take, drop}
 use Rattle.model.specs.Panel.{records}
-use Rattle.model.specs.Numbers.{eq_z, minus_one}
-use Rattle.model.specs.Table.{eq_slot, eq_table, good_records}
-use Rattle.model.proofs.Bools.{holds}
-use Rattle.model.proofs.Tables.{eq_table→eq}
+use Rattle.model.specs.Table.{eq_table, good_records}
 use Rattle.panel.specs.declared.Slot.{Slot}
 use Rattle.panel.specs.declared.Setup.{Setup}
-use Rattle.common.specs.Seen.{natural}
-use Rattle.panel.specs.Seen.{slot_of, table_of, fields_of, blank, unused, unused_all, SameFrom}
-use Rattle.common.proofs.Signs.{and-false, and-true}
-use Rattle.common.proofs.Apart.{bit_of, Walked, dead_turn, free_turn, walk_over}
-use Rattle.panel.proofs.Tables.{good_parts, slots-turn, slots-over, rest-none, same_turn, same_over}
+use Rattle.panel.specs.Seen.{slot_of, table_of, fields_of, unused_all}
+use Rattle.common.proofs.Apart.{Walked}
 use Rattle.panel.proofs.records_judged.Given as goal
 
 -- The first k slots are good; and they are walked over, unless low bits met.

@@ -1,6 +1,6 @@
 -- `panel::row_at` reads a slot's numbers from a lent run. Assumes nothing.
 use borrow.Author.Rules.{rules}
-use mathlib.Core.Path.{◌≡◌, sym}
+use mathlib.Core.Path.{sym}
 use Prim.Native.Nat.{ℕ, ◌+◌}
 use lib.IntN.{ℤ, pos}
 use lib.ListN.{get_or}

@@ -1,5 +1,4 @@
 -- `panel::setup_ok` tells whether a setup is good: one chain of tests. Assumes nothing.
-use borrow.Author.Rules.{rules}
 use Rattle.common.proofs.Signs.{join, last}
 use Rattle.panel.proofs.setup_ok.Goals as goal
 

@@ -1,5 +1,4 @@
 -- `panel::slot_unused` tells whether a record is unused. Assumes nothing.
-use borrow.Author.Rules.{rules}
 use Rattle.panel.proofs.slot_unused.Goals as goal
 
 pub returns : goal.returns

@@ -1,8 +1,7 @@
 -- `panel::table_good` tells whether a table is as a state's should be. Assumes nothing.
-use borrow.Author.Rules.{rules}
 use borrow.Author.Tests.{not-true, not-false}
-use mathlib.Core.Path.{◌≡◌, refl, sym, ap, ap₂, ◌∙◌}
-use mathlib.Core.Bool.{Bool, true, false, ◌&&◌}
+use mathlib.Core.Path.{◌≡◌, sym, ap, ap₂, ◌∙◌}
+use mathlib.Core.Bool.{true, ◌&&◌}
 use Rattle.model.specs.Table.{good_records, ids_differ}
 use Rattle.panel.specs.Seen.{table_of, fields_of}
 use Rattle.panel.proofs.table_good.Goals.{Else-not-told}

@@ -1,5 +1,4 @@
 -- `panel::unused_table` is a table of unused records. Assumes nothing.
-use borrow.Author.Rules.{rules}
 use Rattle.panel.proofs.unused_table.Goals as goal
 
 pub returns : goal.returns

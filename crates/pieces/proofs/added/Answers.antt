@@ -1,5 +1,4 @@
 -- `pieces::added`: five sums that fit, since all of them together do, and the earlier first record. Assumes nothing.
-use borrow.Author.Rules.{rules}
 use Rattle.common.proofs.Back.{skipped_back}
 use Rattle.pieces.proofs.added.Goals as goal
 

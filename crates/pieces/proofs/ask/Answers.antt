@@ -1,8 +1,6 @@
 -- `pieces::ask`: refusal 2 for the left-over bytes, and else the reader's own answer. Assumes nothing.
 use mathlib.Core.Path.{refl, sym, ap, ◌∙◌, subst}
 use mathlib.Core.Bool.{cond}
-use borrow.Author.Rules.{rules}
-use borrow.Author.Tests.{not-true, not-false}
 use Rattle.model.specs.Panel.{base}
 use Rattle.model.specs.Calls as C
 use Rattle.model.specs.Calls.{ask_call, refused}

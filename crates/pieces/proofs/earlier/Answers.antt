@@ -1,5 +1,4 @@
 -- `pieces::earlier`: the first of two that is one. Assumes nothing.
-use borrow.Author.Rules.{rules}
 use Rattle.pieces.proofs.earlier.Goals as goal
 
 pub returns-in-Event : goal.returns-in-Event

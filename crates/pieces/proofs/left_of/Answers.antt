@@ -4,7 +4,6 @@ use Prim.Native.Nat.{ℕ, ◌-◌, ◌*◌, ◌/◌}
 use native.Mathlib.Omega.{arith}
 use lib.ListN.{length, take, drop, replicate, length-drop}
 use lib.Seq.{paste, take_all}
-use borrow.Author.Rules.{rules}
 use Rattle.model.specs.Pieces.{places, left_bytes}
 use Rattle.model.proofs.Pieces.{left-few}
 use Rattle.pieces.proofs.Laid.{start-laid}

@@ -1,14 +1,9 @@
 -- `pieces::unused_clear`: the places passed make no difference; the measure is the places left. Assumes nothing.
-use mathlib.Core.Path.{◌≡◌, refl, sym, ap, ◌∙◌}
-use mathlib.Core.Bool.{◌&&◌}
-use Prim.Native.Nat.{◌+◌, ◌-◌, ◌≤◌}
-use native.Mathlib.Omega.{arith}
-use lib.ListN.{length, get_or, drop, drop_of_length-le}
-use borrow.Author.Rules.{rules}
-use borrow.Author.Tests.{eq-eqb, ne_eqb}
+use mathlib.Core.Path.{◌≡◌}
+use Prim.Native.Nat.{◌-◌}
+use lib.ListN.{drop}
 use Rattle.model.specs.Pieces.{places}
 use Rattle.model.specs.Pod.{zeros}
-use Rattle.model.proofs.Places.{clear_from}
 use Rattle.pieces.proofs.unused_clear.Given as goal
 
 abbrev pub invariant-loop-i : goal.invariant-loop-i

@@ -1,16 +1,9 @@
 -- `plan::absent` tells whether a number is none of the taken ids. The loop has compared j of them; `found`: it was one of those. Assumes nothing.
-use borrow.Author.Rules.{rules}
-use mathlib.Core.Path.{◌≡◌, refl, sym, ap, ◌∙◌}
-use mathlib.Core.Bool.{Bool, true, false, not, ◌&&◌, ◌||◌, and-true}
-use Prim.Native.Nat.{◌≤◌, ◌+◌, ◌-◌}
-use lib.IntN.{pos}
-use lib.ListN.{length, drop, get_or}
-use mir.Syntax.{w32}
-use mir.Val.{SFits, to_z, of_z}
-use mir.ValLaws.{to_z-of_z}
-use Rattle.model.specs.Numbers.{eq_z}
+use mathlib.Core.Path.{◌≡◌}
+use mathlib.Core.Bool.{not, ◌&&◌}
+use Prim.Native.Nat.{◌≤◌, ◌-◌}
+use lib.ListN.{length, drop}
 use Rattle.model.specs.Table.{unheld}
-use Rattle.panel.proofs.Tables.{unheld-step, unheld_end}
 use Rattle.plan.proofs.absent.Given as goal
 
 abbrev pub invariant-loop-j : goal.invariant-loop-j

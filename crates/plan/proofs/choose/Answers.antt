@@ -1,10 +1,10 @@
 -- `plan::choose` finds the first number that is not taken. The loop has tried and passed taken ones; `tries` are left. Assumes nothing.
 use borrow.Author.Rules.{rules}
 use mathlib.Core.Path.{◌≡◌, sym, ap, ◌∙◌}
-use Prim.Native.Nat.{◌≤◌, ◌<◌, ◌-◌, ◌*◌}
+use Prim.Native.Nat.{◌-◌, ◌*◌}
 use native.Mathlib.Omega.{arith}
-use Rattle.model.specs.Panel.{id_count, records}
-use Rattle.model.specs.Frame.{free_id, pick, next}
+use Rattle.model.specs.Panel.{records}
+use Rattle.model.specs.Frame.{pick, next}
 use Rattle.model.proofs.Tries.{free_id-short, pick-stays, pick-held}
 use Rattle.plan.proofs.choose.Goals as goal
 

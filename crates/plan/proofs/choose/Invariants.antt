@@ -1,11 +1,8 @@
 -- `plan::choose` finds the first number that is not taken. The loop has tried and passed taken ones; `tries` are left. Assumes nothing.
-use borrow.Author.Rules.{rules}
-use mathlib.Core.Path.{◌≡◌, sym, ap, ◌∙◌}
-use Prim.Native.Nat.{◌≤◌, ◌<◌, ◌-◌, ◌*◌}
-use native.Mathlib.Omega.{arith}
+use mathlib.Core.Path.{◌≡◌}
+use Prim.Native.Nat.{◌≤◌, ◌<◌, ◌*◌}
 use Rattle.model.specs.Panel.{id_count, records}
-use Rattle.model.specs.Frame.{free_id, pick, next}
-use Rattle.model.proofs.Tries.{free_id-short, pick-stays, pick-held}
+use Rattle.model.specs.Frame.{free_id, pick}
 use Rattle.plan.proofs.choose.Given as goal
 
 abbrev pub invariant-loop-tries : goal.invariant-loop-tries

@@ -1,10 +1,9 @@
 -- `plan::free` tells whether a number is none of the taken ids, by its bit or by all of them. Assumes nothing.
-use mathlib.Core.Path.{◌≡◌, refl, sym, ap, ◌∙◌}
+use mathlib.Core.Path.{refl, sym, ap, ◌∙◌}
 use lib.Bits.{bit_and}
 use lib.IntN.{pos}
 use Rattle.common.specs.declared.TrackingId.{TrackingId}
 use Rattle.model.specs.Table.{unheld}
-use borrow.Author.Rules.{rules}
 use Rattle.plan.proofs.free.Goals as goal
 
 pub mark_of-requires : goal.mark_of-requires

@@ -1,44 +1,17 @@
 -- `plan::give_ids` judges the rest of a frame's rows, makes its table and counter and tells what changes. The first m of `taken` are the ids taken so far. Assumes nothing.
-use borrow.Author.Rules.{rules}
-use borrow.Author.Tests.{not-true, not-false}
-use mathlib.Core.Path.{◌≡◌, refl, sym, ap, ap₂, subst, ◌∙◌}
-use mathlib.Core.Bool.{Bool, true, false, ◌&&◌}
-use mathlib.Core.List.{List, [], ◌∷◌, ◌++◌}
+use mathlib.Core.Path.{◌≡◌}
+use mathlib.Core.List.{List}
 use Prim.Native.Nat.{ℕ, ◌<◌, ◌≤◌, ◌+◌, ◌-◌, ◌*◌}
-use native.Mathlib.Numerals.{add-one}
-use native.Mathlib.Omega.{arith}
-use lib.Bits.{bit_or}
-use lib.IntN.{ℤ, pos}
-use lib.ListN.{length, take, drop, get_or, set, length-set}
-use lib.Seq.{length-take-le, take-suc-set, set-get_or}
-use mir.Syntax.{w32}
-use mir.Val.{SFits}
-use mir.ValLaws.{to_z-of_z}
-use Rattle.model.specs.Panel.{base, setup_good, id_count, per_slot, records}
-use Rattle.model.specs.Numbers.{eq_z}
-use Rattle.model.specs.Table.{numbers_of, ids, unheld, good_slot}
-use Rattle.model.specs.Sending.{changed_in}
-use Rattle.model.specs.Frame.{Fate, kind_of, good_row, good_rows, fate, next, free_id, rows_from, slot_after, taken_after, counter_after, Planned, after}
-use Rattle.model.proofs.Rows.{rows_none}
-use Rattle.model.proofs.Tries.{Same, same-last, planned-same}
-use Rattle.common.specs.declared.TrackingId.{TrackingId}
-use Rattle.common.specs.Marks.{bit_of, Met}
-use Rattle.common.proofs.Apart.{front_holds, met_join}
-use Rattle.common.proofs.Signs.{first-false, first-true}
+use lib.IntN.{ℤ}
+use lib.ListN.{length, take}
+use Rattle.model.specs.Panel.{id_count, records}
+use Rattle.model.specs.Frame.{Planned}
+use Rattle.common.specs.Marks.{Met}
 use Rattle.panel.specs.declared.Slot.{Slot}
 use Rattle.panel.specs.declared.Setup.{Setup}
-use Rattle.panel.specs.Seen.{row_of, slot_of, table_of, setup_of, fields_of, axes_of, blank, unused}
-use Rattle.panel.proofs.Setups.{small}
-use Rattle.panel.proofs.Tables.{good-rest}
 use Rattle.tally.specs.declared.Changed.{Changed}
-use Rattle.tally.specs.Told.{with_slot, Tells}
-use Rattle.tally.proofs.Told.{told-set, told-on}
-use Rattle.plan.specs.Row.{begun, contact_of, stayed, plain_row}
-use Rattle.plan.specs.Quiet.{quiet_row, Of32}
-use Rattle.plan.specs.Walk.{rows_good, plan_from, PlansBy}
-use Rattle.plan.proofs.Still.{Stays, still, slot-good, same-slot}
-use Rattle.plan.proofs.Turn as Turn
-use Rattle.plan.proofs.Turn.{good-plain, begun-slot, stayed-slot, begun-taken, begun-counter}
+use Rattle.tally.specs.Told.{Tells}
+use Rattle.plan.specs.Walk.{rows_good, plan_from}
 use Rattle.plan.proofs.give_ids.Given as goal
 
 -- The rows from s₀ to s are good, and their slots made; `promised` is what was to be planned from the start.

@@ -2,18 +2,17 @@
 use borrow.Author.Rules.{rules}
 use mathlib.Core.Path.{◌≡◌, sym, ap, ◌∙◌}
 use mathlib.Core.List.{List, ◌∷◌, [], ◌++◌}
-use Prim.Native.Nat.{◌≤◌, ◌<◌, ◌-◌, ◌*◌}
+use Prim.Native.Nat.{◌<◌}
 use native.Mathlib.Numerals.{add-one}
 use native.Mathlib.Omega.{arith}
 use lib.IntN.{ℤ}
-use lib.ListN.{length, take, get_or, length-set}
+use lib.ListN.{length, get_or, length-set}
 use lib.Seq.{take-suc-set}
 use mir.Syntax.{w32}
 use mir.Val.{SFits}
 use mir.ValLaws.{to_z-of_z}
 use Rattle.model.specs.Panel.{records}
-use Rattle.model.specs.Table.{ids}
-use Rattle.panel.specs.Seen.{slot_of, table_of, blank}
+use Rattle.panel.specs.Seen.{slot_of, blank}
 use Rattle.common.proofs.Apart.{more-ids}
 use Rattle.plan.proofs.ids_of.Goals as goal
 

@@ -1,6 +1,6 @@
 -- `plan::plan_frame` judges the rows of a frame, makes its table and counter and tells what changes, up to the first contact that begins; the rest is `give_ids`'. Assumes nothing.
 use borrow.Author.Rules.{rules}
-use borrow.Author.Tests.{eq-eqb, not-true, not-false}
+use borrow.Author.Tests.{eq-eqb}
 use mathlib.Core.Path.{◌≡◌, refl, sym, ap, subst, ◌∙◌}
 use mathlib.Core.Bool.{true, false, not, cond, ◌&&◌, false≢true}
 use mathlib.Core.List.{List}
@@ -16,7 +16,7 @@ use mir.ValLaws.{to_z-of_z}
 use Rattle.model.specs.Panel.{base, setup_good, per_slot, records}
 use Rattle.model.specs.Numbers.{eq_z, minus_one}
 use Rattle.model.specs.Table.{ids, live, numbers_of, good_slot}
-use Rattle.model.specs.Frame.{Fate, kind_of, good_row, good_rows, values_good, none, goes_on, begins, fate, free_id, rows_from, slot_after, framed, Planned}
+use Rattle.model.specs.Frame.{kind_of, good_row, good_rows, none, goes_on, begins, fate, free_id, rows_from, slot_after, framed}
 use Rattle.model.specs.Sending.{changed_in}
 use Rattle.model.proofs.Bools.{holds, and_left, and_right, eq_z→eq}
 use Rattle.model.proofs.Count.{none-changed}
@@ -24,7 +24,7 @@ use Rattle.model.proofs.Rows.{rows_none}
 use Rattle.common.proofs.Signs.{first-false, first-true, or-true}
 use Rattle.panel.specs.declared.Slot.{Slot}
 use Rattle.panel.specs.declared.Setup.{Setup}
-use Rattle.panel.specs.Seen.{row_of, slot_of, table_of, setup_of, fields_of, axes_of, panel_seen, blank}
+use Rattle.panel.specs.Seen.{row_of, slot_of, table_of, setup_of, fields_of, axes_of, blank}
 use Rattle.panel.proofs.Setups.{small}
 use Rattle.tally.specs.declared.Changed.{Changed}
 use Rattle.tally.specs.Told.{with_slot, Tells}

@@ -9,7 +9,6 @@ use mir.ValLaws.{to_z-of_z}
 use Rattle.model.specs.Numbers.{eq_z, minus_one}
 use Rattle.panel.specs.Seen.{row_of}
 use Rattle.plan.specs.Quiet.{same_numbers, quiet_row}
-use borrow.Author.Tests.{not-true, not-false}
 use borrow.Author.Rules.{rules}
 use Rattle.plan.proofs.quiet.Goals.{After-same, After-same-2, Start}
 use Rattle.plan.proofs.quiet.Goals as goal

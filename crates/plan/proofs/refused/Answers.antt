@@ -1,7 +1,6 @@
 -- `plan::refused` is the answer to a bad row. Assumes nothing.
-use mathlib.Core.Path.{◌≡◌, ap}
+use mathlib.Core.Path.{ap}
 use mathlib.Core.Bool.{false}
-use borrow.Author.Rules.{rules}
 use Rattle.tally.specs.declared.Changed.{Changed}
 use Rattle.plan.specs.declared.Planned.{Planned}
 use Rattle.plan.proofs.refused.Goals as goal

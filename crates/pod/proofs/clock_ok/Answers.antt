@@ -1,6 +1,4 @@
 -- `pod::clock_ok` meets its contract: the date, then the time. Cited by the proofs of its callers; assumes nothing.
-use borrow.Author.Tests.{not-true, not-false}
-use borrow.Author.Rules.{rules}
 use Rattle.pod.proofs.clock_ok.Goals as goal
 
 pub returns-then-not-three_ok : goal.returns-then-not-three_ok

@@ -1,7 +1,5 @@
 -- `pod::judge_both` meets its contract: by the tests of the two stick bytes, in the model's order. Cited by the proofs of its
 -- callers; assumes nothing.
-use borrow.Author.Tests.{not-true, not-false}
-use borrow.Author.Rules.{rules}
 use Rattle.pod.proofs.judge_both.Goals as goal
 
 pub returns-then-not-stick_ok : goal.returns-then-not-stick_ok

@@ -1,6 +1,4 @@
 -- `pod::judge_stick` meets its contract: by the test of the stick byte. Cited by the proofs of its callers; assumes nothing.
-use borrow.Author.Tests.{not-true, not-false}
-use borrow.Author.Rules.{rules}
 use Rattle.pod.proofs.judge_stick.Goals as goal
 
 pub returns-then-not-stick_ok : goal.returns-then-not-stick_ok

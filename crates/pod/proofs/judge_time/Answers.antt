@@ -1,6 +1,4 @@
 -- `pod::judge_time` meets its contract: by the test of its digits. Cited by the proofs of its callers; assumes nothing.
-use borrow.Author.Tests.{not-true, not-false}
-use borrow.Author.Rules.{rules}
 use Rattle.pod.proofs.judge_time.Goals as goal
 
 pub returns-then-not-clock_ok : goal.returns-then-not-clock_ok

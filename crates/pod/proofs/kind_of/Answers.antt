@@ -1,9 +1,7 @@
 -- `pod::kind_of` meets its contract: each arm of the match is a row of the model's table, or one of the gaps between them.
 -- Cited by the proofs of its callers; assumes nothing.
 use mathlib.Core.Path.{◌≡◌, sym, ap}
-use Prim.Native.Nat.{ℕ, suc, ◌≤◌}
 use native.Mathlib.Omega.{arith}
-use borrow.Author.Rules.{rules}
 use Rattle.model.specs.Pod.{kind_of}
 use Rattle.model.proofs.FirstBytes.{key_down_row, gap_row, key_up_row, relative_row, one_stick_row}
 use Rattle.pod.proofs.kind_of.Goals as goal

@@ -1,7 +1,6 @@
 -- `pod::length_of` meets its contract: each arm's constant is the model's length of that kind. Cited by the proofs of its
 -- callers; assumes nothing.
 use mathlib.Core.Path.{◌≡◌, sym, ap}
-use borrow.Author.Rules.{rules}
 use Rattle.model.specs.Pod.{length_of}
 use Rattle.pod.specs.declared.Kind.{Kind}
 use Rattle.pod.specs.Seen.{kind_seen}

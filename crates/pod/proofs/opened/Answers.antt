@@ -1,8 +1,6 @@
 -- `pod::opened` meets its contract: by the wait and the byte, each branch is a row of K3's table. Cited by the proofs of its callers; assumes
 -- nothing.
 use mathlib.Core.Path.{◌∙◌, sym}
-use borrow.Author.Tests.{not-true, not-false}
-use borrow.Author.Rules.{rules}
 use Rattle.model.proofs.FirstBytes.{unwaited_row, self_test_row, other_row}
 use Rattle.pod.proofs.opened.Goals as goal
 

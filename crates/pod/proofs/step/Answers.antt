@@ -6,8 +6,6 @@ use mathlib.Core.List.{[], ◌∷◌, ◌++◌}
 use Prim.Native.Nat.{◌+◌, ◌-◌, ◌≤◌, ◌<◌}
 use native.Mathlib.Omega.{arith}
 use lib.ListN.{take}
-use borrow.Author.Tests.{not-true, not-false}
-use borrow.Author.Rules.{rules}
 use Rattle.model.specs.Pod as M
 use Rattle.model.specs.Pod.{amended, length_of, held_in, emptied, well_formed, waits_after, first_of, accepted, ending}
 use Rattle.model.proofs.Pod.{formed, lengths, step-refused, step-more, step-last}

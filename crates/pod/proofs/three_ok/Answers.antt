@@ -1,6 +1,4 @@
 -- `pod::three_ok` meets its contract: by the three tests, in the model's order. Cited by the proofs of its callers; assumes nothing.
-use borrow.Author.Tests.{not-true, not-false}
-use borrow.Author.Rules.{rules}
 use Rattle.pod.proofs.three_ok.Goals as goal
 
 pub returns-then-not-digits_ok : goal.returns-then-not-digits_ok

@@ -1,14 +1,9 @@
 -- `pod::unused_clear` meets its contract: the loop's invariant is that the places passed make no difference; the measure is the
 -- places left. Cited by the proofs of its callers; assumes nothing.
-use mathlib.Core.Path.{◌≡◌, refl, sym, ap, ◌∙◌}
-use mathlib.Core.Bool.{◌&&◌}
-use Prim.Native.Nat.{◌+◌, ◌-◌, ◌≤◌}
-use native.Mathlib.Omega.{arith}
-use lib.ListN.{length, get_or, drop, drop_of_length-le}
-use borrow.Author.Rules.{rules}
-use borrow.Author.Tests.{eq-eqb, ne_eqb}
+use mathlib.Core.Path.{◌≡◌}
+use Prim.Native.Nat.{◌-◌}
+use lib.ListN.{drop}
 use Rattle.model.specs.Pod.{places, zeros}
-use Rattle.model.proofs.Places.{clear_from}
 use Rattle.pod.proofs.unused_clear.Given as goal
 
 abbrev pub invariant-loop-i : goal.invariant-loop-i

@@ -3,7 +3,7 @@
 use mathlib.Core.Path.{◌≡◌}
 use native.Mathlib.Omega.{arith}
 use lib.ListN.{length}
-use borrow.Author.Tests.{eq-eqb, le-leb, lt-leb, not-true, not-false}
+use borrow.Author.Tests.{eq-eqb, le-leb, lt-leb}
 use borrow.Author.Rules.{rules}
 use Rattle.model.specs.Pod.{places, well_formed}
 use Rattle.pod.proofs.well_formed.Goals as goal

@@ -1,15 +1,12 @@
 -- `pointer::age` is the age by which a record's rank is counted. Assumes nothing.
-use mathlib.Core.Path.{◌≡◌, refl, sym, ap, ap₂, ◌∙◌}
-use mathlib.Core.Bool.{Bool, true, false, cond}
-use borrow.Author.Tests.{not-true, not-false}
+use mathlib.Core.Path.{◌≡◌, sym, ap, ap₂, ◌∙◌}
+use mathlib.Core.Bool.{true, false, cond}
 use mir.Syntax.{w32}
-use mir.Val.{to_z, of_z}
 use mir.ValLaws.{to_z-of_z}
 use Rattle.model.specs.Numbers.{eq_z}
 use Rattle.model.specs.Table.{live}
 use Rattle.model.specs.Frame.{none, goes_on, begins}
 use Rattle.pointer.specs.Marks.{age_by}
-use borrow.Author.Rules.{rules}
 use Rattle.pointer.proofs.age.Goals.{After-lives, After-same}
 use Rattle.pointer.proofs.age.Goals as goal
 

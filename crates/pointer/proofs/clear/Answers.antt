@@ -1,7 +1,6 @@
 -- `pointer::clear` tells whether nothing is ranked and nothing was told. Assumes nothing.
-use mathlib.Core.Path.{◌≡◌, ap₂}
+use mathlib.Core.Path.{ap₂}
 use mathlib.Core.Bool.{◌&&◌}
-use borrow.Author.Rules.{rules}
 use Rattle.pointer.proofs.clear.Goals as goal
 
 pub returns : goal.returns

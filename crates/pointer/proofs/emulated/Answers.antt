@@ -2,12 +2,10 @@
 use mathlib.Core.Path.{◌≡◌, sym, ap, ◌∙◌, subst}
 use native.Mathlib.Omega.{arith}
 use lib.ListN.{length}
-use borrow.Author.Tests.{not-true}
 use Rattle.model.specs.Pointer.{emulated}
 use Rattle.model.proofs.Emulated.{emulated_self}
 use Rattle.pointer.specs.Seen.{pointer_of}
 use Rattle.pointer.specs.Moved.{StillIf}
-use borrow.Author.Rules.{rules}
 use Rattle.pointer.proofs.emulated.Goals as goal
 
 pub returns-then-not-on : goal.returns-then-not-on

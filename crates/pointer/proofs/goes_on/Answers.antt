@@ -1,12 +1,10 @@
 -- `pointer::goes_on` tells whether a contact goes on, by its id before and after. Assumes nothing.
-use mathlib.Core.Path.{◌≡◌, ◌∙◌, ap, ap₂}
+use mathlib.Core.Path.{◌∙◌, ap, ap₂}
 use mathlib.Core.Bool.{◌&&◌}
 use mir.Syntax.{w32}
-use mir.Val.{to_z, of_z}
 use mir.ValLaws.{to_z-of_z}
 use Rattle.model.specs.Numbers.{eq_z}
 use Rattle.model.specs.Table.{live}
-use borrow.Author.Rules.{rules}
 use Rattle.pointer.proofs.goes_on.Goals as goal
 
 pub returns : goal.returns

@@ -1,22 +1,11 @@
 -- `pointer::ids_stay` tells whether two lists of ids are the same. The loop has found the same ids in the slots whose bits `left` no longer has. Assumes nothing.
-use mathlib.Core.Path.{◌≡◌, sym, ap, ap₂, ◌∙◌}
+use mathlib.Core.Path.{◌≡◌}
 use mathlib.Core.List.{List}
-use Prim.Native.Nat.{ℕ, ◌<◌, ◌-◌, ◌%◌, ◌^◌}
-use native.Mathlib.Omega.{arith}
-use lib.Bits.{bit_and, and_le_r}
-use lib.Count.{count_trailing_zeros}
-use lib.IntN.{ℤ, pos}
-use lib.ListN.{get_or}
-use mir.Syntax.{w32}
-use mir.Val.{SFits}
-use mir.ValLaws.{to_z-of_z}
-use borrow.Author.Tests.{not-true, not-false}
+use Prim.Native.Nat.{ℕ, ◌<◌, ◌^◌}
+use lib.IntN.{ℤ}
 use Rattle.model.specs.Panel.{records}
-use Rattle.model.specs.Numbers.{eq_z}
 use Rattle.model.specs.Table.{eq_slot}
-use Rattle.model.proofs.Order.{trailing_below}
-use Rattle.pointer.proofs.Covered.{stays_in, covered, stays-over, stays-turn, stays-not}
-use borrow.Author.Rules.{rules}
+use Rattle.pointer.proofs.Covered.{stays_in}
 use Rattle.pointer.proofs.ids_stay.Given as goal
 
 -- All ids are the same exactly where those are whose slots are left.

@@ -1,14 +1,12 @@
 -- `pointer::live_count` counts live ids. The loop has counted those of the first i. Assumes nothing.
-use mathlib.Core.Path.{◌≡◌, refl, sym, ap, ◌∙◌}
-use mathlib.Core.Bool.{Bool, true, false}
-use Prim.Native.Nat.{◌≤◌, ◌<◌, ◌+◌, ◌-◌}
+use mathlib.Core.Path.{◌≡◌, sym, ap, ◌∙◌}
+use Prim.Native.Nat.{◌<◌, ◌+◌}
 use native.Mathlib.Omega.{arith}
 use lib.IntN.{pos}
 use lib.ListN.{length, drop, get_or}
 use mir.Syntax.{w32}
 use mir.Val.{SFits}
 use mir.ValLaws.{to_z-of_z}
-use Rattle.model.specs.Panel.{records}
 use Rattle.model.specs.Table.{live}
 use Rattle.model.specs.Ranks.{one_more_if, live_count}
 use Rattle.pointer.proofs.Turns.{live-turn}

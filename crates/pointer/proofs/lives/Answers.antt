@@ -4,7 +4,6 @@ use mathlib.Core.Bool.{not}
 use mir.Syntax.{w32}
 use mir.ValLaws.{to_z-of_z}
 use Rattle.model.specs.Numbers.{eq_z, minus_one}
-use borrow.Author.Rules.{rules}
 use Rattle.pointer.proofs.lives.Goals as goal
 
 pub returns : goal.returns

@@ -1,11 +1,10 @@
 -- `pointer::marks_of` marks the ranks of the contacts that go on. The loop has passed i records. Assumes nothing.
 use mathlib.Core.Path.{◌≡◌, refl, sym, ap, ap₂, ◌∙◌, subst}
-use mathlib.Core.Bool.{Bool, true, false, cond, ◌&&◌}
-use mathlib.Core.List.{List, [], ◌∷◌}
-use Prim.Native.Nat.{ℕ, suc, ◌≤◌, ◌<◌, ◌+◌, ◌-◌}
+use mathlib.Core.Bool.{◌&&◌}
+use Prim.Native.Nat.{◌<◌, ◌+◌}
 use native.Mathlib.Omega.{arith}
-use lib.IntN.{ℤ, pos}
-use lib.ListN.{length, drop, get_or, set, length-set}
+use lib.IntN.{pos}
+use lib.ListN.{drop, get_or, set, length-set}
 use mir.Syntax.{w32}
 use mir.Val.{SFits}
 use mir.ValLaws.{to_z-of_z}
@@ -13,14 +12,12 @@ use Rattle.model.specs.Panel.{records}
 use Rattle.model.specs.Ranks.{ages}
 use Rattle.model.proofs.RanksMarks.{Marked, marked_start}
 use Rattle.pointer.specs.Seen.{fates_by}
-use Rattle.pointer.specs.Marks.{Marks, Told}
 use Rattle.pointer.proofs.Idle.{idle_ages}
 use Rattle.pointer.proofs.Tops.{marks_end}
 use Rattle.pointer.proofs.Turns.{going_turn, other_turn}
 use Rattle.model.specs.Numbers.{eq_z}
 use Rattle.model.specs.Table.{live}
 use borrow.Author.Rules.{rules}
-use Rattle.pointer.proofs.marks_of.Invariants.{MarkedTo}
 use Rattle.pointer.proofs.marks_of.Goals.{After-goes_on}
 use Rattle.pointer.proofs.marks_of.Goals as goal
 

@@ -1,7 +1,6 @@
 -- `pointer::move_on` moves ranks and what is told, where the option is on. Assumes nothing.
 use mathlib.Core.Path.{refl, sym, subst}
 use Rattle.pointer.specs.Moved.{MovingIf, MovesBy}
-use borrow.Author.Rules.{rules}
 use Rattle.pointer.proofs.move_on.Goals as goal
 
 pub moves-requires : goal.moves-requires

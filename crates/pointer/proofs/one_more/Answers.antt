@@ -1,10 +1,8 @@
 -- `pointer::one_more` is one more where the flag is set. Assumes nothing.
-use mathlib.Core.Path.{◌≡◌, refl, sym, ap, ◌∙◌}
+use mathlib.Core.Path.{sym, ap, ◌∙◌}
 use native.Mathlib.Numerals.{add-one}
-use lib.Dec.{eqb}
 use borrow.Author.Tests.{eq-eqb, ne_eqb}
 use Rattle.model.specs.Ranks.{one_more_if}
-use borrow.Author.Rules.{rules}
 use Rattle.pointer.proofs.one_more.Goals as goal
 
 pub returns-then-flag-eq1 : goal.returns-then-flag-eq1

@@ -1,10 +1,8 @@
 -- `pointer::pointed` is what a display should see. Assumes nothing.
-use mathlib.Core.Path.{◌≡◌, refl, sym, ap, ◌∙◌}
+use mathlib.Core.Path.{refl, sym}
 use lib.IntN.{pos}
-use Rattle.model.specs.Pointer.{still}
 use Rattle.model.proofs.Pointed.{still-live}
 use Rattle.pointer.proofs.Numbers.{positive}
-use borrow.Author.Rules.{rules}
 use Rattle.pointer.proofs.pointed.Goals as goal
 
 pub returns-then-live-eq0 : goal.returns-then-live-eq0

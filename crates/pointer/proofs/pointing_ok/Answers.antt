@@ -1,9 +1,8 @@
 -- `pointer::pointing_ok` tells whether ranks and told numbers are well formed, by the option. Assumes nothing.
-use mathlib.Core.Path.{◌≡◌, sym, ap, ◌∙◌}
+use mathlib.Core.Path.{sym, ap, ◌∙◌}
 use Rattle.model.specs.Pointing.{good_pointing}
 use Rattle.panel.specs.Seen.{table_of, panel_seen}
 use Rattle.pointer.specs.Seen.{pointing_of}
-use borrow.Author.Rules.{rules}
 use Rattle.pointer.proofs.pointing_ok.Goals as goal
 
 pub returns-then-on : goal.returns-then-on

@@ -1,24 +1,12 @@
 -- `pointer::ranks_after` are the ranks after a frame. The loop has made i of them. Assumes nothing.
-use mathlib.Core.Path.{◌≡◌, refl, sym, ap, ap₂, ◌∙◌}
-use mathlib.Core.Bool.{Bool, true, false, not}
+use mathlib.Core.Path.{◌≡◌}
 use mathlib.Core.List.{List}
-use Prim.Native.Nat.{ℕ, zero, suc, ◌≤◌, ◌<◌, ◌+◌, ◌-◌}
-use native.Mathlib.Omega.{arith}
-use lib.Dec.{T, ltb, ltb→lt, nltb→le}
+use Prim.Native.Nat.{ℕ, ◌≤◌, ◌<◌, ◌-◌}
 use lib.IntN.{ℤ, pos}
-use lib.ListN.{length, get_or, set, replicate, length-set}
-use lib.Seq.{get_or-set_same, get_or-set_other}
-use mir.Syntax.{w32}
-use mir.Val.{SFits}
-use mir.ValLaws.{to_z-of_z}
+use lib.ListN.{length, get_or}
 use Rattle.model.specs.Panel.{records}
-use Rattle.pointer.specs.Seen.{fate_by, fates_by}
-use Rattle.model.specs.Numbers.{minus_one}
-use Rattle.pointer.specs.Marks.{Told, Sums, age_by}
-use Rattle.pointer.specs.Moved.{Idle}
-use Rattle.pointer.proofs.Idle.{idle_at}
-use Rattle.pointer.proofs.Ranked.{age_small, summed}
-use borrow.Author.Rules.{rules}
+use Rattle.pointer.specs.Seen.{fate_by}
+use Rattle.pointer.specs.Marks.{age_by}
 use Rattle.pointer.proofs.ranks_after.Given as goal
 
 -- The age of a record.

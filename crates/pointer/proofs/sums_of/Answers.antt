@@ -1,18 +1,14 @@
 -- `pointer::sums_of` counts the flags below each number. The loop has summed up j flags. Assumes nothing.
-use mathlib.Core.Path.{◌≡◌, refl, sym, ap, ap₂, ◌∙◌}
+use mathlib.Core.Path.{◌≡◌, sym, ap, ◌∙◌}
 use mathlib.Core.Bool.{Bool, true, false, not}
 use mathlib.Core.List.{List}
-use Prim.Native.Nat.{ℕ, suc, ◌≤◌, ◌<◌, ◌+◌, ◌-◌}
+use Prim.Native.Nat.{ℕ, suc, ◌≤◌, ◌<◌, ◌+◌}
 use native.Mathlib.Omega.{arith}
-use native.Mathlib.Numerals.{add-one}
 use lib.Dec.{T, eqb, ltb, ltb→lt, nltb→le}
 use lib.ListN.{length, get_or, set, length-set}
 use lib.Seq.{get_or-set_same, get_or-set_other}
-use Rattle.model.specs.Panel.{records}
 use Rattle.model.specs.Ranks.{one_more_if}
-use Rattle.pointer.specs.Marks.{Sums}
 use borrow.Author.Rules.{rules}
-use Rattle.pointer.proofs.sums_of.Invariants.{SumsTo}
 use Rattle.pointer.proofs.sums_of.Goals as goal
 
 one-higher : (b : Bool) (n v j : ℕ) → v ≡ one_more_if b n → n ≤ j → v ≤ j + 1

@@ -1,17 +1,11 @@
 -- `pointer::sums_of` counts the flags below each number. The loop has summed up j flags. Assumes nothing.
-use mathlib.Core.Path.{◌≡◌, refl, sym, ap, ap₂, ◌∙◌}
-use mathlib.Core.Bool.{Bool, true, false, not}
+use mathlib.Core.Path.{◌≡◌}
 use mathlib.Core.List.{List}
-use Prim.Native.Nat.{ℕ, suc, ◌≤◌, ◌<◌, ◌+◌, ◌-◌}
-use native.Mathlib.Omega.{arith}
-use native.Mathlib.Numerals.{add-one}
-use lib.Dec.{T, eqb, ltb, ltb→lt, nltb→le}
-use lib.ListN.{length, get_or, set, length-set}
-use lib.Seq.{get_or-set_same, get_or-set_other}
+use Prim.Native.Nat.{ℕ, suc, ◌≤◌, ◌<◌, ◌-◌}
+use lib.Dec.{eqb}
+use lib.ListN.{length, get_or}
 use Rattle.model.specs.Panel.{records}
 use Rattle.model.specs.Ranks.{one_more_if}
-use Rattle.pointer.specs.Marks.{Sums}
-use borrow.Author.Rules.{rules}
 use Rattle.pointer.proofs.sums_of.Given as goal
 
 pub record SumsTo (m s : List ℕ) (j : ℕ) : Type 0 where

@@ -1,11 +1,9 @@
 -- `pointer::tells` is how many events tell a display. Assumes nothing.
-use mathlib.Core.Path.{◌≡◌, refl, sym, ap, ◌∙◌}
 use native.Mathlib.Omega.{arith}
 use lib.ListN.{length-append}
 use Rattle.model.specs.Pointer.{events_before, events_after, swaps, moves}
 use Rattle.model.proofs.EmulatedNumbers.{length_before, length-swaps, length-moves}
 use Rattle.pointer.specs.Seen.{pointer_of}
-use borrow.Author.Rules.{rules}
 use Rattle.pointer.proofs.tells.Goals as goal
 
 pub returns : goal.returns

@@ -1,8 +1,6 @@
 -- `pointer::tool_of` is the tool by how many contacts are live. Assumes nothing.
-use mathlib.Core.Path.{◌≡◌, sym}
-use native.Mathlib.Omega.{arith}
+use mathlib.Core.Path.{sym}
 use Rattle.pointer.proofs.Numbers.{tool_many}
-use borrow.Author.Rules.{rules}
 use Rattle.pointer.proofs.tool_of.Goals as goal
 
 pub returns : goal.returns

@@ -1,7 +1,6 @@
 -- `pointer::touch_of` is BTN_TOUCH by how many contacts are live. Assumes nothing.
-use mathlib.Core.Path.{◌≡◌, sym}
+use mathlib.Core.Path.{sym}
 use Rattle.pointer.proofs.Numbers.{touch_some}
-use borrow.Author.Rules.{rules}
 use Rattle.pointer.proofs.touch_of.Goals as goal
 
 pub returns : goal.returns

@@ -1,10 +1,9 @@
 -- `pointer::zero_from` tells whether every rank from n on is 0. The loop has looked at those below i. Assumes nothing.
-use mathlib.Core.Path.{◌≡◌, refl, sym, ap, ◌∙◌}
-use mathlib.Core.Bool.{Bool, true, false, not, ◌&&◌, ◌||◌, and-true}
-use Prim.Native.Nat.{◌≤◌, ◌<◌, ◌+◌, ◌-◌}
-use native.Mathlib.Omega.{arith}
+use mathlib.Core.Path.{refl, sym, ap, ◌∙◌}
+use mathlib.Core.Bool.{not, ◌&&◌, and-true}
+use Prim.Native.Nat.{◌+◌, ◌-◌}
 use lib.Dec.{eqb}
-use lib.ListN.{length, drop, get_or}
+use lib.ListN.{drop, get_or}
 use Rattle.model.specs.Panel.{records}
 use Rattle.model.specs.Pointing.{zeros}
 use Rattle.pointer.proofs.Numbers.{zeros-turn, zeros-over, neither}

@@ -1,14 +1,10 @@
 -- `pointer::zero_from` tells whether every rank from n on is 0. The loop has looked at those below i. Assumes nothing.
-use mathlib.Core.Path.{◌≡◌, refl, sym, ap, ◌∙◌}
-use mathlib.Core.Bool.{Bool, true, false, not, ◌&&◌, ◌||◌, and-true}
-use Prim.Native.Nat.{◌≤◌, ◌<◌, ◌+◌, ◌-◌}
-use native.Mathlib.Omega.{arith}
-use lib.Dec.{eqb}
-use lib.ListN.{length, drop, get_or}
+use mathlib.Core.Path.{◌≡◌}
+use mathlib.Core.Bool.{not, ◌&&◌}
+use Prim.Native.Nat.{◌≤◌, ◌-◌}
+use lib.ListN.{drop}
 use Rattle.model.specs.Panel.{records}
 use Rattle.model.specs.Pointing.{zeros}
-use Rattle.pointer.proofs.Numbers.{zeros-turn, zeros-over, neither}
-use borrow.Author.Rules.{rules}
 use Rattle.pointer.proofs.zero_from.Given as goal
 
 abbrev pub invariant-loop-i : goal.invariant-loop-i

@@ -1,5 +1,4 @@
 -- `reader::load_accepted`: the answer of an accepted load. Assumes nothing.
-use borrow.Author.Rules.{rules}
 use Rattle.reader.proofs.load_accepted.Goals as goal
 
 pub returns : goal.returns

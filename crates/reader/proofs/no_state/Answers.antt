@@ -1,5 +1,4 @@
 -- `reader::no_state`: zeros and mode following. Assumes nothing.
-use borrow.Author.Rules.{rules}
 use Rattle.reader.proofs.no_state.Goals as goal
 
 pub returns : goal.returns

@@ -1,5 +1,4 @@
 -- `reader::run_refused`: the state as it came in, and zeros. Assumes nothing.
-use borrow.Author.Rules.{rules}
 use Rattle.reader.proofs.run_refused.Goals as goal
 
 pub returns : goal.returns

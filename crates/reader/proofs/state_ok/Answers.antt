@@ -1,6 +1,4 @@
 -- `reader::state_ok`: whether a state is well formed, its setup first. Assumes nothing.
-use borrow.Author.Rules.{rules}
-use borrow.Author.Tests.{not-true, not-false}
 use mathlib.Core.Path.{sym, ◌∙◌}
 use Rattle.model.specs.States.{reader_good}
 use Rattle.panel.proofs.Setups.{small}

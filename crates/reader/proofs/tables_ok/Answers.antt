@@ -1,6 +1,6 @@
 -- `reader::tables_ok`: the tests of a reader's state after its setup, in the model's order. Assumes nothing.
 use borrow.Author.Rules.{rules}
-use borrow.Author.Tests.{not-true, not-false, le-ltb, lt-ltb}
+use borrow.Author.Tests.{le-ltb, lt-ltb}
 use mathlib.Core.Path.{◌≡◌, sym, ◌∙◌}
 use lib.ListN.{length}
 use Rattle.model.specs.Panel.{records}

@@ -4,7 +4,6 @@ use Prim.Native.Nat.{◌/◌}
 use native.Mathlib.Omega.{arith}
 use lib.ListN.{length, set}
 use borrow.Rule.Slice.PartMut.{put_mid}
-use borrow.Author.Rules.{rules}
 use Rattle.model.specs.Recorder.{block_length, header_length}
 use Rattle.recorder.proofs.Built.{head_length, body-length, built}
 use Rattle.recorder.proofs.build.Goals.{After-copy, After-put}

@@ -1,16 +1,13 @@
 -- `recorder::clear` meets its contract: the bits of the bytes before i are joined, and all bytes are zero if these and those from i on are. Assumes nothing.
-use mathlib.Core.Path.{◌≡◌, refl, sym, ap, ◌∙◌}
+use mathlib.Core.Path.{refl, sym, ap, ◌∙◌}
 use mathlib.Core.Bool.{◌&&◌, and-true}
-use mathlib.Core.List.{List}
-use Prim.Native.Nat.{ℕ, ◌-◌, ◌≤◌}
+use Prim.Native.Nat.{◌≤◌}
 use native.Mathlib.Omega.{arith}
 use lib.Dec.{eqb}
 use lib.ListN.{length, take, length-take, drop_of_length-le}
 use borrow.Author.Rules.{rules}
 use Rattle.model.specs.Pod.{zeros}
-use Rattle.model.specs.Recorder.{part}
 use Rattle.recorder.proofs.Laws.{clear_turn}
-use Rattle.recorder.proofs.clear.Invariants.{Joined}
 use Rattle.recorder.proofs.clear.Goals as goal
 
 pub loop-i-init : goal.loop-i-init

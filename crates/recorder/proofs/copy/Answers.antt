@@ -1,14 +1,12 @@
 -- `recorder::copy` meets its contract: the bytes before i are copied, and the others stay. Assumes nothing.
 use mathlib.Core.Path.{◌≡◌, refl, ap, ◌∙◌}
-use mathlib.Core.List.{List, ◌++◌}
-use Prim.Native.Nat.{ℕ, ◌-◌, ◌≤◌}
+use mathlib.Core.List.{◌++◌}
 use native.Mathlib.Omega.{arith}
 use lib.ListN.{length, take, drop}
 use lib.Seq.{take-length}
 use borrow.Author.Rules.{rules}
 use Rattle.records.specs.Seen.{over}
 use Rattle.recorder.proofs.Laws.{copy_turn, copy_length}
-use Rattle.recorder.proofs.copy.Invariants.{Copied}
 use Rattle.recorder.proofs.copy.Goals.{At-loop-i}
 use Rattle.recorder.proofs.copy.Goals as goal
 

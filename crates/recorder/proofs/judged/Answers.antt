@@ -1,7 +1,7 @@
 -- `recorder::judged` names the first of the four tests that fails. Assumes nothing.
 use mathlib.Core.Path.{◌≡◌}
 use mathlib.Core.Bool.{true}
-use borrow.Author.Tests.{not-true, not-false, le-leb, lt-leb}
+use borrow.Author.Tests.{le-leb, lt-leb}
 use Rattle.model.specs.Recorder.{most_in_block}
 use Rattle.recorder.proofs.judged.Goals.{Else-not-check, Else-not-number}
 use Rattle.recorder.proofs.judged.Goals as goal

@@ -1,12 +1,10 @@
 -- `recorder::make_block` answers as the model's call does, refusal by refusal. Assumes nothing.
 use mathlib.Core.Path.{◌≡◌, sym, ap, ◌∙◌}
 use mathlib.Core.Bool.{true}
-use mathlib.Core.List.{List}
-use Prim.Native.Nat.{ℕ, ◌-◌, ◌%◌}
+use Prim.Native.Nat.{◌-◌, ◌%◌}
 use lib.Dec.{leb}
 use lib.ListN.{length}
-use borrow.Author.Rules.{rules}
-use borrow.Author.Tests.{eq-eqb, ne_eqb, not-true, not-false, leb-true}
+use borrow.Author.Tests.{eq-eqb, ne_eqb, leb-true}
 use Rattle.model.specs.Numbers.{between}
 use Rattle.model.specs.Recorder.{full_run, number_limit}
 use Rattle.model.proofs.Bools.{and_right}

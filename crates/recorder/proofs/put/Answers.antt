@@ -4,7 +4,6 @@ use lib.ListN.{length-set}
 use lib.Seq.{sets-eq}
 use Rattle.model.specs.Records.{low_bytes}
 use Rattle.records.specs.Seen.{over}
-use borrow.Author.Rules.{rules}
 use Rattle.recorder.proofs.put.Goals as goal
 
 pub bounds-b-1 : goal.bounds-b-1

@@ -1,7 +1,7 @@
 -- `recorder::put_blocks` lays all blocks: before block k, what is left to lay over the buffer is what was left at the start. Assumes nothing.
 use mathlib.Core.Path.{◌≡◌, refl, sym, ap, ◌∙◌}
-use mathlib.Core.List.{List, [], ◌++◌}
-use Prim.Native.Nat.{ℕ, ◌+◌, ◌-◌, ◌*◌, ◌≤◌}
+use mathlib.Core.List.{[], ◌++◌}
+use Prim.Native.Nat.{◌+◌, ◌-◌, ◌*◌, ◌≤◌}
 use native.Mathlib.Omega.{arith}
 use lib.ListN.{length, take, drop, length-take}
 use borrow.Author.Rules.{rules}
@@ -12,7 +12,6 @@ use Rattle.model.proofs.Blocks.{block-length}
 use Rattle.records.specs.Seen.{over}
 use Rattle.records.proofs.Over.{lay_nil, turn-room, turn-length, turn-lay}
 use Rattle.recorder.proofs.Left.{left, left_all, left-none, left-length, left-next, run_is}
-use Rattle.recorder.proofs.put_blocks.Invariants.{Laying}
 use Rattle.recorder.proofs.put_blocks.Goals.{After-build-b, After-copy, In-loop-k}
 use Rattle.recorder.proofs.put_blocks.Goals as goal
 

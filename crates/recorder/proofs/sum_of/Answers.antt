@@ -1,14 +1,12 @@
 -- `recorder::sum_of` meets its contract: the loop has summed the bytes before i. Assumes nothing.
 use mathlib.Core.Path.{◌≡◌, refl, sym, ap, ap₂, ◌∙◌}
-use mathlib.Core.List.{List}
-use Prim.Native.Nat.{ℕ, ◌+◌, ◌-◌, ◌*◌, ◌≤◌}
+use Prim.Native.Nat.{◌+◌, ◌*◌, ◌≤◌}
 use native.Mathlib.Omega.{arith}
 use lib.ListN.{take, get_or}
 use borrow.Author.Rules.{rules}
 use Rattle.model.specs.Recorder.{check_place, weighed}
 use Rattle.model.proofs.Weights.{product_small}
 use Rattle.recorder.proofs.Laws.{sum_turn}
-use Rattle.recorder.proofs.sum_of.Invariants.{Summed}
 use Rattle.recorder.proofs.sum_of.Goals.{After-weight}
 use Rattle.recorder.proofs.sum_of.Goals as goal
 

@@ -1,13 +1,9 @@
 -- `recorder::sum_of` meets its contract: the loop has summed the bytes before i. Assumes nothing.
-use mathlib.Core.Path.{◌≡◌, refl, sym, ap, ap₂, ◌∙◌}
+use mathlib.Core.Path.{◌≡◌}
 use mathlib.Core.List.{List}
-use Prim.Native.Nat.{ℕ, ◌+◌, ◌-◌, ◌*◌, ◌≤◌}
-use native.Mathlib.Omega.{arith}
-use lib.ListN.{take, get_or}
-use borrow.Author.Rules.{rules}
+use Prim.Native.Nat.{ℕ, ◌-◌, ◌*◌, ◌≤◌}
+use lib.ListN.{take}
 use Rattle.model.specs.Recorder.{check_place, weighed}
-use Rattle.model.proofs.Weights.{product_small}
-use Rattle.recorder.proofs.Laws.{sum_turn}
 use Rattle.recorder.proofs.sum_of.Given as goal
 
 -- Bytes before i are summed, each of which adds at most 129,540.

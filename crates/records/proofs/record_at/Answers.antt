@@ -1,5 +1,4 @@
 -- `records::record_at` reads the eight bytes at a position. Assumes nothing.
-use borrow.Author.Rules.{rules}
 use Rattle.records.proofs.record_at.Goals as goal
 
 pub returns : goal.returns

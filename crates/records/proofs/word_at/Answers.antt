@@ -1,5 +1,4 @@
 -- `records::word_at` reads the four bytes at a position. Assumes nothing.
-use borrow.Author.Rules.{rules}
 use Rattle.records.proofs.word_at.Goals as goal
 
 pub returns : goal.returns

@@ -1,12 +1,9 @@
 -- `send::put_display` writes the tools, and X and Y. Assumes nothing.
 use mathlib.Core.Path.{◌∙◌}
-use mathlib.Core.List.{List}
-use Prim.Native.Nat.{ℕ}
 use native.Mathlib.Omega.{arith}
 use lib.ListN.{length-append}
 use Rattle.send.specs.Told.{tool_bytes, place_bytes}
 use Rattle.send.proofs.Parts.{Begun, begins}
-use borrow.Author.Rules.{rules}
 use Rattle.send.proofs.put_display.Goals.{After-put_tools-i}
 use Rattle.send.proofs.put_display.Goals as goal
 

@@ -10,7 +10,6 @@ use Rattle.model.specs.Records.{record_bytes}
 use Rattle.records.proofs.Over.{record_length, lay_nil, lay_put}
 use Rattle.send.specs.declared.Change.{Change}
 use Rattle.send.proofs.Parts.{record_room}
-use borrow.Author.Rules.{rules}
 use Rattle.send.proofs.put_number.Goals.{Else-c}
 use Rattle.send.proofs.put_number.Goals as goal
 

@@ -11,7 +11,6 @@ use Rattle.panel.specs.Seen.{slot_of}
 use Rattle.records.proofs.Over.{record_length, lay_put}
 use Rattle.send.specs.Sent.{bytes_sent}
 use Rattle.send.proofs.Parts.{opened-bytes, record_room, Begun, begins}
-use borrow.Author.Rules.{rules}
 use Rattle.send.proofs.put_opened.Goals.{After-put, Start}
 use Rattle.send.proofs.put_opened.Goals as goal
 

@@ -1,12 +1,9 @@
 -- `send::put_place` writes X and Y. Assumes nothing.
 use mathlib.Core.Path.{◌∙◌}
-use mathlib.Core.List.{List}
-use Prim.Native.Nat.{ℕ}
 use native.Mathlib.Omega.{arith}
 use lib.ListN.{length-append}
 use Rattle.send.specs.Sent.{told_bytes}
 use Rattle.send.proofs.Parts.{Begun, begins}
-use borrow.Author.Rules.{rules}
 use Rattle.send.proofs.put_place.Goals.{After-put_number-i}
 use Rattle.send.proofs.put_place.Goals as goal
 

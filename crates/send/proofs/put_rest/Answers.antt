@@ -1,12 +1,10 @@
 -- `send::put_rest` writes a slot's changed pressure, major and minor. Assumes nothing.
 use mathlib.Core.Path.{◌∙◌}
-use mathlib.Core.List.{List, ◌++◌}
-use Prim.Native.Nat.{ℕ}
+use mathlib.Core.List.{◌++◌}
 use native.Mathlib.Omega.{arith}
 use lib.ListN.{length-append}
 use Rattle.send.specs.Sent.{number_bytes}
 use Rattle.send.proofs.Parts.{Begun, begins}
-use borrow.Author.Rules.{rules}
 use Rattle.send.proofs.put_rest.Goals.{After-put_number-i, After-put_number-j}
 use Rattle.send.proofs.put_rest.Goals as goal
 

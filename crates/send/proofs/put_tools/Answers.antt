@@ -1,14 +1,13 @@
 -- `send::put_tools` writes the old tool's 0 and the new tool's 1. Assumes nothing.
 use mathlib.Core.Path.{◌≡◌, ap, ap₂, ◌∙◌}
-use mathlib.Core.List.{List, ◌++◌}
-use Prim.Native.Nat.{ℕ, ◌+◌, ◌≤◌}
+use mathlib.Core.List.{◌++◌}
+use Prim.Native.Nat.{◌+◌, ◌≤◌}
 use native.Mathlib.Omega.{arith}
 use lib.ListN.{length, length-append}
 use Rattle.model.specs.Records.{lay}
 use Rattle.send.specs.Sent.{told_bytes}
 use Rattle.send.specs.Told.{tool_bytes}
 use Rattle.send.proofs.Parts.{Begun, begins}
-use borrow.Author.Rules.{rules}
 use Rattle.send.proofs.put_tools.Goals.{After-one_if, After-put_number-i}
 use Rattle.send.proofs.put_tools.Goals as goal
 

@@ -8,7 +8,6 @@ use Rattle.model.specs.Records.{record_bytes}
 use Rattle.records.proofs.Over.{record_length, lay_put}
 use Rattle.send.specs.Told.{tool_bytes, place_bytes}
 use Rattle.send.proofs.Parts.{record_room, Begun, begins}
-use borrow.Author.Rules.{rules}
 use Rattle.send.proofs.send_end.Goals.{After-put_display-end}
 use Rattle.send.proofs.send_end.Goals as goal
 

@@ -3,7 +3,7 @@
 use borrow.Author.Rules.{rules}
 use mathlib.Core.Path.{◌≡◌, refl, sym, ap, ◌∙◌}
 use mathlib.Core.List.{List, [], ◌++◌}
-use Prim.Native.Nat.{ℕ, ◌<◌, ◌≤◌, ◌+◌, ◌-◌, ◌%◌, ◌^◌}
+use Prim.Native.Nat.{ℕ, ◌<◌, ◌≤◌, ◌+◌, ◌-◌, ◌%◌}
 use native.Mathlib.Omega.{arith}
 use lib.Bits.{bit_and, and_le_r}
 use lib.Count.{count_trailing_zeros}
@@ -14,12 +14,11 @@ use Rattle.model.specs.Sending.{Sent, changes, last_opened}
 use Rattle.model.specs.Order.{of_mask}
 use Rattle.model.proofs.Follow.{last_append, last-changes}
 use Rattle.model.proofs.Order.{mask_none, mask_next, trailing_below}
-use Rattle.panel.specs.declared.Slot.{Slot}
 use Rattle.panel.specs.Seen.{slot_of, blank}
 use Rattle.records.proofs.Over.{lay_nil}
 use Rattle.send.specs.Sent.{bytes_sent, opened_at, sent_by}
 use Rattle.send.proofs.Parts.{sent_nil, sent_append, Begun, begins}
-use Rattle.send.proofs.send_slots.Invariants.{left, Laid}
+use Rattle.send.proofs.send_slots.Invariants.{left}
 use Rattle.send.proofs.send_slots.Goals.{After-loop-m, After-put_changes-end, After-put_opened-end, In-loop-m, Start}
 use Rattle.send.proofs.send_slots.Goals as goal
 

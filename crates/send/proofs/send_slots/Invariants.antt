@@ -1,24 +1,15 @@
 -- `send::send_slots` writes the current slot's changes and those of the others. The loop has written the slots whose bits m no longer has.
 -- Assumes nothing.
-use borrow.Author.Rules.{rules}
-use mathlib.Core.Path.{◌≡◌, refl, sym, ap, ◌∙◌}
-use mathlib.Core.List.{List, [], ◌++◌}
-use Prim.Native.Nat.{ℕ, ◌<◌, ◌≤◌, ◌+◌, ◌-◌, ◌%◌, ◌^◌}
-use native.Mathlib.Omega.{arith}
-use lib.Bits.{bit_and, and_le_r}
-use lib.Count.{count_trailing_zeros}
-use lib.ListN.{length, length-append, get_or}
+use mathlib.Core.Path.{◌≡◌}
+use mathlib.Core.List.{List}
+use Prim.Native.Nat.{ℕ, ◌<◌, ◌≤◌, ◌+◌, ◌^◌}
+use lib.ListN.{length}
 use Rattle.model.specs.Panel.{records}
 use Rattle.model.specs.Records.{lay}
-use Rattle.model.specs.Sending.{Sent, changes, last_opened}
+use Rattle.model.specs.Sending.{last_opened}
 use Rattle.model.specs.Order.{of_mask}
-use Rattle.model.proofs.Follow.{last_append, last-changes}
-use Rattle.model.proofs.Order.{mask_none, mask_next, trailing_below}
 use Rattle.panel.specs.declared.Slot.{Slot}
-use Rattle.panel.specs.Seen.{slot_of, blank}
-use Rattle.records.proofs.Over.{lay_nil}
-use Rattle.send.specs.Sent.{bytes_sent, opened_at, sent_by}
-use Rattle.send.proofs.Parts.{sent_nil, sent_append, Begun, begins}
+use Rattle.send.specs.Sent.{bytes_sent, opened_at}
 use Rattle.send.proofs.send_slots.Given as goal
 
 -- the slots that m names

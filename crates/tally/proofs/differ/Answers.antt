@@ -4,7 +4,6 @@ use native.Mathlib.Omega.{arith}
 use lib.Dec.{eqb}
 use Rattle.model.specs.Numbers.{eq_z}
 use Rattle.model.specs.Sending.{one_unless}
-use borrow.Author.Rules.{rules}
 use Rattle.tally.proofs.differ.Goals as goal
 
 pub returns : goal.returns

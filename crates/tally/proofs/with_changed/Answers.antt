@@ -1,9 +1,8 @@
 -- `tally::with_changed` sets a slot's bit and adds its numbers, of which there are some. Assumes nothing.
-use borrow.Author.Rules.{rules}
 use borrow.Author.Tests.{ne_eqb}
-use mathlib.Core.Path.{◌≡◌, ap, ap₂, sym, ◌∙◌}
+use mathlib.Core.Path.{◌≡◌, ap, sym, ◌∙◌}
 use mathlib.Core.Bool.{false}
-use Prim.Native.Nat.{◌<◌, ◌≤◌, ◌+◌, ◌*◌, ◌%◌, ◌^◌}
+use Prim.Native.Nat.{◌≤◌, ◌+◌, ◌*◌, ◌%◌, ◌^◌}
 use native.Mathlib.Omega.{arith}
 use lib.Dec.{eqb}
 use lib.Pow.{shl_exact, pow_mono}

@@ -1,5 +1,4 @@
 -- `tally::without_current` takes the current slot's bit out. Assumes nothing.
-use borrow.Author.Rules.{rules}
 use mathlib.Core.Path.{◌≡◌, ap, ◌∙◌}
 use Prim.Native.Nat.{◌*◌, ◌-◌, ◌%◌, ◌^◌}
 use native.Mathlib.Omega.{arith}

@@ -1,5 +1,5 @@
 -- `writer::has_room` tells whether so many bytes have room from a position on. Assumes nothing.
-use mathlib.Core.Path.{◌≡◌, sym, ap}
+use mathlib.Core.Path.{sym, ap}
 use mathlib.Core.Bool.{◌&&◌}
 use Prim.Native.Nat.{◌-◌}
 use lib.Dec.{leb}

@@ -3,13 +3,12 @@ use mathlib.Core.Path.{◌≡◌, refl, sym, ◌∙◌}
 use mathlib.Core.Bool.{Bool, true, false, ◌&&◌}
 use lib.Dec.{ltb}
 use lib.ListN.{length}
-use borrow.Author.Tests.{not-true, not-false, le-ltb, lt-ltb}
+use borrow.Author.Tests.{le-ltb, lt-ltb}
 use Rattle.model.specs.Panel.{base, setup_good, records, id_count}
 use Rattle.model.specs.Table.{ids_differ, good_records}
 use Rattle.panel.specs.Seen.{table_of, setup_of, fields_of}
 use Rattle.model.proofs.Bools.{and_left}
 use Rattle.panel.proofs.Tables.{unmapped, good-rest}
-use Rattle.writer.specs.declared.WriterState.{WriterState}
 use Rattle.panel.proofs.Setups.{small}
 use Rattle.writer.proofs.States.{pointing_good, good_by}
 use borrow.Author.Rules.{rules}

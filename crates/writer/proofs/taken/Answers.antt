@@ -1,7 +1,6 @@
 -- `writer::taken` is an accepted frame's answer. Assumes nothing.
 use mathlib.Core.Path.{ap}
 use Rattle.writer.specs.Seen.{written_by}
-use borrow.Author.Rules.{rules}
 use Rattle.writer.proofs.taken.Goals as goal
 
 pub returns : goal.returns

@@ -1,7 +1,5 @@
 -- `writer::unchanged` hands a state back, unless the position is past the end. Assumes nothing.
-use mathlib.Core.Path.{◌≡◌, sym, ap, ◌∙◌}
-use borrow.Author.Rules.{rules}
-use borrow.Author.Tests.{not-true, not-false}
+use mathlib.Core.Path.{sym, ap, ◌∙◌}
 use Rattle.writer.specs.Seen.{still_by}
 use Rattle.writer.proofs.unchanged.Goals as goal
 

@@ -1,10 +1,8 @@
 -- `writer::write` answers as the model's call does, refusal by refusal, and writes a good frame that has room. Assumes nothing.
 use mathlib.Core.Path.{◌≡◌, refl, sym, ap, ap₂, subst, ◌∙◌}
-use mathlib.Core.Bool.{Bool, true, false, ◌&&◌}
-use mathlib.Core.List.{List}
-use Prim.Native.Nat.{ℕ, ◌<◌, ◌≤◌, ◌+◌, ◌-◌, ◌*◌}
+use mathlib.Core.Bool.{true, false}
+use Prim.Native.Nat.{ℕ, ◌<◌, ◌+◌, ◌*◌}
 use native.Mathlib.Omega.{arith}
-use lib.IntN.{ℤ}
 use lib.ListN.{length}
 use borrow.Author.Tests.{eq-eqb, ne_eqb, not-true, not-false}
 use Rattle.model.specs.Panel.{base, per_slot, records}
@@ -14,14 +12,12 @@ use Rattle.model.specs.Calls.{room_for}
 use Rattle.model.specs.Pointing.{pointer_good, pointer_need}
 use Rattle.panel.specs.Seen.{table_of, panel_seen}
 use Rattle.panel.proofs.Tables.{unmapped}
-use Rattle.plan.specs.declared.Planned.{Planned}
 use Rattle.plan.specs.Quiet.{QuietAt}
 use Rattle.plan.specs.Walk.{Given, Plans, PlansBy}
 use Rattle.plan.proofs.Unique.{verdict_of}
 use Rattle.pointer.specs.declared.Moved.{Moved}
 use Rattle.pointer.specs.Moved.{MovingIf, MovesBy}
 use Rattle.tally.proofs.Told.{others-told, events-told}
-use Rattle.writer.specs.declared.WriterState.{WriterState}
 use Rattle.writer.specs.Seen.{seen, written_from, with_last, taken_by}
 use Rattle.writer.proofs.States.{good-setup, good-size, good-slots, good-current, good-counter}
 use Rattle.writer.proofs.Outcome.{answer_by, buffer_by, refusal_is}

@@ -1,6 +1,4 @@
 -- `ReaderState::fresh`: a fresh reader, or refusal 1 with zeros. Assumes nothing.
-use borrow.Author.Rules.{rules}
-use borrow.Author.Tests.{not-true, not-false}
 use mathlib.Core.Path.{sym, ap, ◌∙◌}
 use Rattle.model.specs.Panel.{crane}
 use Rattle.model.proofs.Answers.{reader-not-made, reader-made}

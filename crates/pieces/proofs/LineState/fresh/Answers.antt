@@ -1,7 +1,6 @@
 -- `LineState::fresh`: the reader's fresh answer, with nothing left over. Assumes nothing.
 use mathlib.Core.Path.{ap}
 use mathlib.Core.List.{[]}
-use borrow.Author.Rules.{rules}
 use Rattle.model.specs.Pieces.{fresh_line_call, placed}
 use Rattle.reader.specs.declared.FreshAnswer as R
 use Rattle.pieces.specs.declared.FreshAnswer.{FreshAnswer}

@@ -1,11 +1,9 @@
 -- `WriterState::fresh` is a fresh writer, or zeros. Assumes nothing.
-use mathlib.Core.Path.{◌≡◌, sym, ap, ◌∙◌}
+use mathlib.Core.Path.{◌≡◌, sym, ◌∙◌}
 use mathlib.Core.Bool.{true, false}
-use borrow.Author.Tests.{not-true, not-false}
 use Rattle.model.specs.Panel.{base, setup_good}
 use Rattle.model.specs.Pointing.{fresh_pointer_call}
 use Rattle.panel.specs.Seen.{setup_of}
-use borrow.Author.Rules.{rules}
 use Rattle.writer.proofs.WriterState.fresh.Goals as goal
 
 pub returns-then-not-setup_ok : goal.returns-then-not-setup_ok
