@@ -2,13 +2,13 @@
 use mathlib.Core.Path.{sym, ◌∙◌}
 use Rattle.model.specs.Unique.{OneAnswer, OneLeft}
 use Rattle.commands.proofs.read.Reads as read
-use Rattle.commands.proofs.size_of.Reads as type_size
+use Rattle.commands.proofs.size_of.Reads as size_of
 use Rattle.commands.proofs.write.Reads as write
 
 pub read_one : OneAnswer read.Learnt
 read_one κs a r q s t e g = e.answer ∙ sym g.answer
 
-pub size_of_one : OneAnswer type_size.Learnt
+pub size_of_one : OneAnswer size_of.Learnt
 size_of_one κs a r q s t e g = e ∙ sym g
 
 pub write_one : OneAnswer write.Learnt

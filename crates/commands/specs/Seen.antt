@@ -112,7 +112,7 @@ ReadsOn input at (r ∷ rs) = AnswersAs input at r × (waiting r ≡ false) × R
 abbrev pub written_from : M.Written → Written
 written_from w = record { verdict = verdict_from w.verdict; state = Pod.held w.state; need = w.need }
 
--- It was IsAccepted.
+-- It was accepted.
 abbrev pub IsAccepted : Written → Type 0
 IsAccepted w = verdict_number w.verdict ≡ 0
 
@@ -130,11 +130,11 @@ pub record Call : Type 0 where
   pub answer : Written
   pub after : List ℕ
 
--- Where writing goes on after a call that was IsAccepted.
+-- Where writing goes on after a call that was accepted.
 abbrev pub place_after : ℕ → Call → ℕ
 place_after at c = at + M.size_of (seen c.command)
 
--- Calls one after the other, each where the command before it ended and all IsAccepted: the contract of `write` allows each.
+-- Calls one after the other, each where the command before it ended and all accepted: the contract of `write` allows each.
 abbrev pub WritesOn : List ℕ → ℕ → List Call → Type 0
 WritesOn buf at [] = Unit {0}
 WritesOn buf at (c ∷ cs) = Wrote c.pod c.command at buf c.answer c.after × IsAccepted c.answer × WritesOn c.after (place_after at c) cs

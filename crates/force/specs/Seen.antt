@@ -70,7 +70,7 @@ ReadsOn input at (r ∷ rs) = AnswersAs input at r × (waiting r ≡ false) × R
 abbrev pub written_from : M.Written → Written
 written_from w = record { verdict = verdict_from w.verdict; need = w.need }
 
--- It was IsAccepted.
+-- It was accepted.
 abbrev pub IsAccepted : Written → Type 0
 IsAccepted w = verdict_number w.verdict ≡ 0
 
