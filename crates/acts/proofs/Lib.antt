@@ -1,5 +1,3 @@
--- The laws behind the acts.
--- Heads: what the model finds in an event by its head.
--- Unique: the promise leaves no choice.
-pub mod Heads
+-- The laws of what a record asks.
+-- Unique: the promises leave no choice.
 pub mod Unique

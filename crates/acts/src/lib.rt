@@ -48,19 +48,12 @@ const PRESSURE: u32 = ABS + HALF * records::PRESSURE as u32;
 fn other_act(kind: u16, code: u16) -> Act
     ensures { (u : Setup) (v : ℤ) → act_of u (record { type = kind; code = code; value = v }) result ≡ unlisted_act kind code }
 {
-    if kind == records::SYN {
-        if code == records::REPORT {
-            return Act::Report;
-        }
-        if code == records::DROPPED {
-            return Act::Loss;
-        }
-        return Act::UnknownCode;
+    match (kind, code) {
+        (records::SYN, records::REPORT) => Act::Report,
+        (records::SYN, records::DROPPED) => Act::Loss,
+        (records::SYN | records::ABS, _) => Act::UnknownCode,
+        _ => Act::UnknownType,
     }
-    if kind == records::ABS {
-        return Act::UnknownCode;
-    }
-    Act::UnknownType
 }
 
 // Whatever the setup and the record's value: the promise is of every event with this head.

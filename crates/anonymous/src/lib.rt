@@ -37,14 +37,10 @@ fn olds_of(t: [Slot; RECORDS]) -> Olds
     let mut y = [0u32; RECORDS];
     let mut live = [false; RECORDS];
     let mut count: usize = 0;
-    let mut s: usize = 0;
-    while s < RECORDS {
+    for s in 0..RECORDS {
         let r = t[s];
-        let id = r.id;
-        let at = s;
-        s += 1;
-        let lives = !common::same(id.0, TrackingId::UNUSED);
-        live[at] = lives;
+        let lives = !common::same(r.id.0, TrackingId::UNUSED);
+        live[s] = lives;
         if lives {
             x[count] = r.x;
             y[count] = r.y;
@@ -58,12 +54,13 @@ fn olds_of(t: [Slot; RECORDS]) -> Olds
 fn plain(a: [i32; MOST]) -> [u32; MOST]
     ensures { result ≡ map natural a }
 {
-    let b = common::nat_of(a[0]);
-    let c = common::nat_of(a[1]);
-    let d = common::nat_of(a[2]);
-    let e = common::nat_of(a[3]);
-    let f = common::nat_of(a[4]);
-    [b, c, d, e, f]
+    [
+        common::nat_of(a[0]),
+        common::nat_of(a[1]),
+        common::nat_of(a[2]),
+        common::nat_of(a[3]),
+        common::nat_of(a[4]),
+    ]
 }
 
 // The number of each record's contact, or ALONE.
@@ -72,10 +69,8 @@ fn numbers_at(t: [Slot; RECORDS], p: Packets) -> [u8; RECORDS]
     ensures { result ≡ contact_numbers (table_of t) (contacts_in p) }
 {
     let o = olds_of(t);
-    let x = p.x;
-    let y = p.y;
-    let nx = plain(x);
-    let ny = plain(y);
+    let nx = plain(p.x);
+    let ny = plain(p.y);
     let ox = o.x;
     let oy = o.y;
     let live = o.live;
@@ -89,19 +84,14 @@ fn frame_of(n: usize, numbers: [u8; RECORDS], p: Packets) -> [i32; NUMBERS]
     ensures { result ≡ flat (map (row_at (places p)) (take n numbers)) ++ replicate (per_slot * (records - n)) (pos 0) }
 {
     let mut f = [0i32; NUMBERS];
-    let x = p.x;
-    let y = p.y;
-    let pressure = p.pressure;
-    let mut s: usize = 0;
-    while s < n {
+    for s in 0..n {
         let at = PER_SLOT * s;
         let c = numbers[s] as usize;
-        s += 1;
         if c < MOST {
             f[at] = 1;
-            f[at + 1] = x[c];
-            f[at + 2] = y[c];
-            f[at + 3] = pressure[c];
+            f[at + 1] = p.x[c];
+            f[at + 2] = p.y[c];
+            f[at + 3] = p.pressure[c];
         }
     }
     f
@@ -143,18 +133,14 @@ pub fn read_frame(setup: Setup, table: [Slot; RECORDS], bytes: &[u8]) -> Framed
     if !p.sound {
         return unframed(Verdict::Unfinished);
     }
-    let x = p.x;
-    let y = p.y;
-    let pressure = p.pressure;
-    if !packets::values_ok(setup, p.count, x, y, pressure) {
+    if !packets::values_ok(setup, p.count, p.x, p.y, p.pressure) {
         return unframed(Verdict::Value);
     }
     let numbers = numbers_at(table, p);
     let n = setup.n;
-    let frame = frame_of(n, numbers, p);
     let size = PER_SLOT * n;
     Framed {
-        frame,
+        frame: frame_of(n, numbers, p),
         size,
         verdict: Verdict::Accepted,
     }
@@ -167,9 +153,7 @@ pub fn write(state: WriterState, bytes: &[u8], buf: &mut [u8], at: usize) -> Wri
     if !writer::state_ok(state) {
         return writer::refused(Verdict::State, state, 0);
     }
-    let setup = state.setup;
-    let table = state.table;
-    let f = read_frame(setup, table, bytes);
+    let f = read_frame(state.setup, state.table, bytes);
     let v = f.verdict;
     if v.number() != 0 {
         return writer::refused(v, state, 0);

@@ -3,6 +3,8 @@
 // answer is the model's.
 #![tactic(auto)]
 
+mod words;
+
 ghost use Rattle.std.specs.Prelude.{◌≡◌, ◌∷◌, [], ◌≤◌, length};
 ghost use Rattle.model.specs.Calls.{room_for};
 ghost use Rattle.model.specs.Pod.{word, clock_in};
@@ -195,6 +197,7 @@ const ASK_CLOCK: u8 = 0x1c;
 const MOST_ACTION: u8 = 4;
 
 // The one decision over a first byte.
+#[tactic(auto, unfolding(model::specs::Commands::kind_of))]
 fn kind_of(first: u8) -> Kind
     ensures { kind_seen result ≡ kind_of first }
 {
@@ -259,29 +262,18 @@ pub fn size_of(command: Command) -> usize
 fn ticks_ok(x: u8, y: u8) -> bool
     ensures { result ≡ ticks x y }
 {
-    if x < 1 {
-        return false;
-    }
-    1 <= y
+    1 <= x && 1 <= y
 }
 
 fn command_ok(command: Command) -> bool
     ensures { result ≡ good_command (seen command) }
 {
     match command {
-        Command::Reset(_) => true,
         Command::ButtonAction(c) => c.action <= MOST_ACTION,
-        Command::RelativeMode(_) => true,
-        Command::AbsoluteMode(_) => true,
         Command::Threshold(c) => ticks_ok(c.x, c.y),
         Command::Scale(c) => ticks_ok(c.x, c.y),
-        Command::Interrogate(_) => true,
-        Command::LoadPosition(_) => true,
-        Command::SetClock(c) => {
-            let clock = c.clock;
-            pod::clock_ok(clock)
-        }
-        Command::AskClock(_) => true,
+        Command::SetClock(c) => pod::clock_ok(c.clock),
+        _ => true,
     }
 }
 
@@ -289,7 +281,7 @@ fn command_ok(command: Command) -> bool
 fn join(high: u8, low: u8) -> u16
     ensures { result ≡ word high low }
 {
-    256 * (high as u16) + (low as u16)
+    u16::from_be_bytes([high, low])
 }
 
 // A command that is not good is refused.
@@ -316,9 +308,10 @@ fn absolute_of(bytes: &[u8]) -> Answer
     requires { length_of absolute_kind ≤ length bytes.now }
     ensures { result ≡ held_answer (judged absolute_kind bytes.now) }
 {
-    let x = join(bytes[1], bytes[2]);
-    let y = join(bytes[3], bytes[4]);
-    Answer::Command(Command::AbsoluteMode(AbsoluteMode { x, y }))
+    Answer::Command(Command::AbsoluteMode(AbsoluteMode {
+        x: join(bytes[1], bytes[2]),
+        y: join(bytes[3], bytes[4]),
+    }))
 }
 
 fn load_of(bytes: &[u8]) -> Answer
@@ -328,9 +321,10 @@ fn load_of(bytes: &[u8]) -> Answer
     if bytes[1] != FILLER {
         return Answer::Refused;
     }
-    let x = join(bytes[2], bytes[3]);
-    let y = join(bytes[4], bytes[5]);
-    Answer::Command(Command::LoadPosition(LoadPosition { x, y }))
+    Answer::Command(Command::LoadPosition(LoadPosition {
+        x: join(bytes[2], bytes[3]),
+        y: join(bytes[4], bytes[5]),
+    }))
 }
 
 fn clock_of(bytes: &[u8]) -> Clock
@@ -347,30 +341,6 @@ fn clock_of(bytes: &[u8]) -> Clock
     }
 }
 
-fn buttons_of(action: u8) -> Answer
-    ensures { result ≡ held_answer (taken (buttons action)) }
-{
-    taken(Command::ButtonAction(ButtonAction { action }))
-}
-
-fn threshold_of(x: u8, y: u8) -> Answer
-    ensures { result ≡ held_answer (taken (threshold x y)) }
-{
-    taken(Command::Threshold(Threshold { x, y }))
-}
-
-fn scale_of(x: u8, y: u8) -> Answer
-    ensures { result ≡ held_answer (taken (scale x y)) }
-{
-    taken(Command::Scale(Scale { x, y }))
-}
-
-fn set_clock_of(clock: Clock) -> Answer
-    ensures { result ≡ held_answer (taken (set_clock (clock_seen clock))) }
-{
-    taken(Command::SetClock(SetClock { clock }))
-}
-
 // A whole command at the start of `bytes`.
 fn judge(kind: Kind, bytes: &[u8]) -> Answer
     requires { length_of (kind_seen kind) ≤ length bytes.now }
@@ -378,14 +348,22 @@ fn judge(kind: Kind, bytes: &[u8]) -> Answer
 {
     match kind {
         Kind::Reset => reset_of(bytes[1]),
-        Kind::ButtonAction => buttons_of(bytes[1]),
+        Kind::ButtonAction => taken(Command::ButtonAction(ButtonAction { action: bytes[1] })),
         Kind::RelativeMode => Answer::Command(Command::RelativeMode(RelativeMode {})),
         Kind::AbsoluteMode => absolute_of(bytes),
-        Kind::Threshold => threshold_of(bytes[1], bytes[2]),
-        Kind::Scale => scale_of(bytes[1], bytes[2]),
+        Kind::Threshold => taken(Command::Threshold(Threshold {
+            x: bytes[1],
+            y: bytes[2],
+        })),
+        Kind::Scale => taken(Command::Scale(Scale {
+            x: bytes[1],
+            y: bytes[2],
+        })),
         Kind::Interrogate => Answer::Command(Command::Interrogate(Interrogate {})),
         Kind::LoadPosition => load_of(bytes),
-        Kind::SetClock => set_clock_of(clock_of(bytes)),
+        Kind::SetClock => taken(Command::SetClock(SetClock {
+            clock: clock_of(bytes),
+        })),
         Kind::AskClock => Answer::Command(Command::AskClock(AskClock {})),
         Kind::Other => Answer::NotForUs,
     }
@@ -421,57 +399,50 @@ fn put_one(b: &mut [u8], first: u8)
     b[0] = first;
 }
 
+#[tactic(auto, unfolding(records::specs::Seen::over))]
 fn put_two(b: &mut [u8], first: u8, second: u8)
     requires { 2 ≤ length b.old }
     ensures { b.new ≡ over (first ∷ second ∷ []) b.old }
 {
-    b[0] = first;
-    b[1] = second;
+    b[..2].copy_from_slice(&[first, second]);
 }
 
+#[tactic(auto, unfolding(records::specs::Seen::over))]
 fn put_three(b: &mut [u8], first: u8, x: u8, y: u8)
     requires { 3 ≤ length b.old }
     ensures { b.new ≡ over (first ∷ x ∷ y ∷ []) b.old }
 {
-    b[0] = first;
-    b[1] = x;
-    b[2] = y;
+    b[..3].copy_from_slice(&[first, x, y]);
 }
 
+#[tactic(auto, unfolding(records::specs::Seen::over))]
 fn put_absolute(b: &mut [u8], x: u16, y: u16)
     requires { length_of absolute_kind ≤ length b.old }
     ensures { b.new ≡ over (command_bytes (absolute x y)) b.old }
 {
-    b[0] = ABSOLUTE_MODE;
-    b[1] = (x / 256 % 256) as u8;
-    b[2] = (x % 256) as u8;
-    b[3] = (y / 256 % 256) as u8;
-    b[4] = (y % 256) as u8;
+    let x = x.to_be_bytes();
+    let y = y.to_be_bytes();
+    b[..AbsoluteMode::LENGTH].copy_from_slice(&[ABSOLUTE_MODE, x[0], x[1], y[0], y[1]]);
 }
 
+#[tactic(auto, unfolding(records::specs::Seen::over))]
 fn put_load(b: &mut [u8], x: u16, y: u16)
     requires { length_of load_kind ≤ length b.old }
     ensures { b.new ≡ over (command_bytes (load x y)) b.old }
 {
-    b[0] = LOAD_POSITION;
-    b[1] = FILLER;
-    b[2] = (x / 256 % 256) as u8;
-    b[3] = (x % 256) as u8;
-    b[4] = (y / 256 % 256) as u8;
-    b[5] = (y % 256) as u8;
+    let x = x.to_be_bytes();
+    let y = y.to_be_bytes();
+    b[..LoadPosition::LENGTH].copy_from_slice(&[LOAD_POSITION, FILLER, x[0], x[1], y[0], y[1]]);
 }
 
+#[tactic(auto, unfolding(records::specs::Seen::over))]
 fn put_clock(b: &mut [u8], c: Clock)
     requires { length_of set_clock_kind ≤ length b.old }
     ensures { b.new ≡ over (command_bytes (set_clock (clock_seen c))) b.old }
 {
-    b[0] = SET_CLOCK;
-    b[1] = c.year;
-    b[2] = c.month;
-    b[3] = c.day;
-    b[4] = c.hour;
-    b[5] = c.minute;
-    b[6] = c.second;
+    b[..SetClock::LENGTH].copy_from_slice(&[
+        SET_CLOCK, c.year, c.month, c.day, c.hour, c.minute, c.second,
+    ]);
 }
 
 // A command's bytes at the start of `b`; the other bytes stay.
@@ -488,10 +459,7 @@ fn put(b: &mut [u8], command: Command)
         Command::Scale(c) => put_three(b, SCALE, c.x, c.y),
         Command::Interrogate(_) => put_one(b, INTERROGATE),
         Command::LoadPosition(c) => put_load(b, c.x, c.y),
-        Command::SetClock(c) => {
-            let clock = c.clock;
-            put_clock(b, clock)
-        }
+        Command::SetClock(c) => put_clock(b, c.clock),
         Command::AskClock(_) => put_one(b, ASK_CLOCK),
     }
 }
@@ -499,10 +467,7 @@ fn put(b: &mut [u8], command: Command)
 fn has_room(need: usize, at: usize, size: usize) -> bool
     ensures { result ≡ room_for need at size }
 {
-    if size < at {
-        return false;
-    }
-    need <= size - at
+    at <= size && need <= size - at
 }
 
 // A pod that was reset says again that its self-test passed, whatever it was saying before.
@@ -511,15 +476,7 @@ fn state_after(command: Command, state: PodState) -> PodState
 {
     match command {
         Command::Reset(_) => PodState::fresh(),
-        Command::ButtonAction(_) => state,
-        Command::RelativeMode(_) => state,
-        Command::AbsoluteMode(_) => state,
-        Command::Threshold(_) => state,
-        Command::Scale(_) => state,
-        Command::Interrogate(_) => state,
-        Command::LoadPosition(_) => state,
-        Command::SetClock(_) => state,
-        Command::AskClock(_) => state,
+        _ => state,
     }
 }
 

@@ -2,7 +2,6 @@
 -- Signs: signed numbers by their bits and signs, and tests joined.
 -- Back: what is seen of a verdict or a mode and held again is the same, and the other way round.
 -- Lost: a reader that lost track hears type 0 alone, stays lost, and its mode goes on event by event.
--- Waits: the same by a record's type and code.
 -- Tables: a table of any slots is good, or the same, record by record; the rest of a table is one record and the rest after it.
 -- Apart: ids that fall on different bits of 64 differ; a walk over a table that compares only ids that meet finds whether live ids differ.
 -- Runs: what is left of a run, event by event, at its end, and once track is lost.
@@ -14,7 +13,6 @@
 pub mod Signs
 pub mod Back
 pub mod Lost
-pub mod Waits
 pub mod Tables
 pub mod Apart
 pub mod Runs

@@ -1,4 +1,4 @@
--- A reader that lost track hears events of type 0 alone, stays lost, and its mode goes on event by event. Cited by Waits, by the proof of `last_mode` and by the reader's runs. Assumes nothing.
+-- A reader that lost track hears events of type 0 alone, stays lost, and its mode goes on event by event. Cited by the proof of `last_mode` and by the reader's runs. Assumes nothing.
 use mathlib.Core.Path.{◌≡◌, refl, sym, ◌∙◌}
 use mathlib.Core.Bool.{Bool, true, false, cond}
 use mathlib.Core.List.{List, [], ◌∷◌}
@@ -15,7 +15,7 @@ use Rattle.common.specs.Lost.{heard, on_lost, last_mode}
 
 -- ---- what it does not hear
 
-pub mute_skip : (w : Unknown) (t c : ℕ) (m : Mode) → on_lost m (skip w t c) ≡ m
+mute_skip : (w : Unknown) (t c : ℕ) (m : Mode) → on_lost m (skip w t c) ≡ m
 mute_skip w t c following = refl
 mute_skip w t c dropped = refl
 mute_skip w t c stale = refl

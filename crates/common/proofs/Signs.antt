@@ -3,14 +3,12 @@ use mathlib.Core.Path.{◌≡◌, refl, sym, ap₂, ◌∙◌}
 use mathlib.Core.Bool.{Bool, true, false, ◌&&◌, ◌||◌}
 use Prim.Native.Nat.{ℕ, suc, ◌-◌, ◌^◌}
 use native.Mathlib.Omega.{arith}
-use lib.Dec.{eqb, leb}
+use lib.Dec.{eqb}
 use lib.IntN.{ℤ, pos, negsuc}
-use lib.Signed.{le_z, lt_z}
-use borrow.Author.Tests.{eq-eqb, ne_eqb, eqb-true, eqb-false, lt-leb, le-leb, ltb-true, ltb-false}
+use borrow.Author.Tests.{eq-eqb, ne_eqb, eqb-true, eqb-false}
 use mir.Syntax.{w32}
 use mir.Val.{SFits, of_z}
-use Rattle.model.specs.Numbers.{eq_z, between_z}
-use Rattle.common.specs.Seen.{natural}
+use Rattle.model.specs.Numbers.{eq_z, minus_one}
 
 -- ---- equal bits are equal numbers
 
@@ -27,33 +25,17 @@ eq_bits (pos m) (negsuc n) f g = ne_eqb m (2 ^ 32 - suc n) (λ e. omega arith)
 eq_bits (negsuc m) (pos n) f g = ne_eqb (2 ^ 32 - suc m) n (λ e. omega arith)
 eq_bits (negsuc m) (negsuc n) f g = eqb_iff (2 ^ 32 - suc m) (2 ^ 32 - suc n) m n (λ e. omega arith) (λ e. omega arith)
 
--- ---- by the test `v < -1`
+-- ---- an id's bits: those of -1 are of no contact
 
-pub below_one : (v : ℤ) → lt_z v (negsuc 0) ≡ true → le_z (negsuc 0) v ≡ false
-below_one (pos n) e = let q : ◌≡◌ {A = ℕ} 0 1 = cc in absurd (omega arith)
-below_one (negsuc n) e = lt-leb n 0 (ltb-true 0 n e)
+module _ (v : ℤ) (f : SFits w32 v) where
+  none-fits : SFits w32 minus_one
+  none-fits = record { sfits = omega arith }
 
-pub from_one : (v : ℤ) → lt_z v (negsuc 0) ≡ false → le_z (negsuc 0) v ≡ true
-from_one (pos n) e = refl
-from_one (negsuc n) e = le-leb n 0 (ltb-false 0 n e)
+  pub alive : (of_z w32 v ≡ 4_294_967_295 → ⊥) → eq_z v minus_one ≡ false
+  alive n = sym (eq_bits v minus_one f none-fits) ∙ ne_eqb (of_z w32 v) 4_294_967_295 n
 
--- ---- by the test `v < 0`
-
-pub negative : (v : ℤ) → lt_z v (pos 0) ≡ true → (n : ℕ) × (v ≡ negsuc n)
-negative (pos n) e = absurd (omega (arith, ltb-true n 0 e))
-negative (negsuc n) e = (n, refl)
-
-pub not_negative : (v : ℤ) → lt_z v (pos 0) ≡ false → (n : ℕ) × (v ≡ pos n)
-not_negative (pos n) e = (n, refl)
-not_negative (negsuc n) e = let q : ◌≡◌ {A = ℕ} 0 1 = cc in absurd (omega arith)
-
-pub within_nat : (v : ℤ) (top : ℕ) → lt_z v (pos 0) ≡ false → between_z (pos 0) (pos top) v ≡ leb (natural v) top
-within_nat (pos n) top e = rw (le-leb 0 n (omega arith))
-within_nat (negsuc n) top e = let q : ◌≡◌ {A = ℕ} 0 1 = cc in absurd (omega arith)
-
-pub within_neg : (v : ℤ) (top : ℕ) → lt_z v (pos 0) ≡ true → between_z (pos 0) (pos top) v ≡ false
-within_neg (pos n) top e = absurd (omega (arith, ltb-true n 0 e))
-within_neg (negsuc n) top e = refl
+  pub dead : of_z w32 v ≡ 4_294_967_295 → eq_z v minus_one ≡ true
+  dead e = sym (eq_bits v minus_one f none-fits) ∙ eq-eqb (of_z w32 v) 4_294_967_295 e
 
 -- ---- tests joined
 

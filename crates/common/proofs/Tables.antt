@@ -7,7 +7,7 @@ use native.Mathlib.Numerals.{add-one}
 use native.Mathlib.Omega.{arith}
 use lib.Dec.{T}
 use lib.IntN.{ℤ}
-use lib.ListN.{take, drop, get_or, length, replicate, drop_of_length-le, length-map}
+use lib.ListN.{take, drop, get_or, get_or-replicate, length, length-replicate, replicate, drop_of_length-le, length-map}
 use lib.Seq.{drop-cons, slice-cons, slice_empty}
 use borrow.Author.Tests.{eq-eqb}
 use Rattle.model.specs.Numbers.{eq_z}
@@ -49,6 +49,13 @@ module _ {A : Type 0} (see : A → Slot) where
         → eq_table (map see (drop i a)) (map see (drop i b)) ≡ (eq_slot (see (get_or a i d)) (see (get_or b i d)) && eq_table (map see (drop (i + 1) a)) (map see (drop (i + 1) b)))
     same_turn a b i h k = ap₂ eq_table (rest-is a i h) (rest-is b i k)
 
+    -- One record of those that may never have been used, and those after it: a table of m records, where slot u is an unused one.
+    pub rest-turn : (t : List A) (m : ℕ) (u : A) → length t ≡ m → (i : ℕ) → i < m
+        → eq_table (map see (drop i t)) (map see (drop i (replicate m u))) ≡ (eq_slot (see (get_or t i d)) (see u) && eq_table (map see (drop (i + 1) t)) (map see (drop (i + 1) (replicate m u))))
+    rest-turn t m u full i h =
+        same_turn t (replicate m u) i (omega arith) (omega (arith, length-replicate m u))
+        ∙ ap (λ x. eq_slot (see (get_or t i d)) (see x) && eq_table (map see (drop (i + 1) t)) (map see (drop (i + 1) (replicate m u)))) (get_or-replicate m i u d h)
+
     -- The slot that the code reads.
     pub slot_at : (t : List A) (k : ℕ) → k < length t → get_or (map see t) k [] ≡ see (get_or t k d)
     slot_at [] k h = absurd (omega arith)
@@ -71,6 +78,9 @@ module _ {A : Type 0} (see : A → Slot) where
 
   pub same_over : (a b : List A) (i : ℕ) → map see (drop i a) ≡ map see (drop i b) → eq_table (map see (drop i a)) (map see (drop i b)) ≡ true
   same_over a b i e = ap (eq_table (map see (drop i a))) (sym e) ∙ is_true _ (eq_table_self (map see (drop i a)))
+
+  pub rest-over : (t : List A) (m : ℕ) (u : A) → length t ≡ m → (i : ℕ) → m ≤ i → eq_table (map see (drop i t)) (map see (drop i (replicate m u))) ≡ true
+  rest-over t m u full i h = same_over t (replicate m u) i (rest-none t i (omega arith) ∙ sym (rest-none (replicate m u) i (omega (arith, length-replicate m u))))
 
   -- ---- a whole table: the panel's slots, and the records past them, where slot u is an unused one
 

@@ -70,3 +70,6 @@ number_in top v s l = sym (number-good 0 top v s l)
 
 pub number_out : (top v : ℕ) → top < v → bad ≡ judged top v
 number_out top v l = sym (number-bad 0 top v l)
+
+-- What the bits of a slot number, an id or another number ask: cited by name in the sources of the crates above.
+pub ruleset by_bits = (slot-in, slot_out, id-small, id-none, id-not, number-good, number-bad)

@@ -1,6 +1,8 @@
 // What has no shape, whatever a slot holds and a table counts: the kinds of number, a refusal's name, a reader's mode and how it goes on once track is lost. All other crates stand on it.
 #![tactic(auto)]
 
+mod words;
+
 ghost use Rattle.std.specs.Prelude.{◌≡◌, ◌≤◌, ◌-◌, ◌*◌, ◌/◌, pos, length};
 ghost use Rattle.model.specs.Numbers.{eq_z, between as between_n, between_z};
 ghost use Rattle.model.specs.Panel.{id_field};
@@ -14,7 +16,7 @@ ghost use Rattle.common.specs.Lost.{heard, on_lost, last_mode as mode_after};
 #[derive(Clone, Copy)]
 pub struct SlotNumber(pub usize);
 
-#[derive(Clone, Copy)]
+#[derive(Clone, Copy, PartialEq, Eq)]
 pub struct TrackingId(pub i32);
 
 impl TrackingId {
@@ -35,56 +37,44 @@ pub fn same(a: i32, b: i32) -> bool
 pub fn nat_of(v: i32) -> u32
     ensures { result ≡ natural v }
 {
-    if v < 0 {
-        return 0;
-    }
-    v as u32
+    if v < 0 { 0 } else { v as u32 }
 }
 
 pub fn within(v: i32, top: u32) -> bool
     ensures { result ≡ between_z (pos 0) (pos top) v }
 {
-    if v < 0 {
-        return false;
-    }
-    nat_of(v) <= top
+    0 <= v && nat_of(v) <= top
 }
 
 pub fn between(v: usize, top: usize) -> bool
     ensures { result ≡ between_n 1 top v }
 {
-    if v < 1 {
-        return false;
-    }
-    v <= top
+    (1..=top).contains(&v)
 }
 
 pub fn id_ok(v: i32) -> bool
     ensures { result ≡ fits id_field v }
 {
-    if v < TrackingId::UNUSED {
-        return false;
-    }
-    v <= TrackingId::MOST
+    (TrackingId::UNUSED..=TrackingId::MOST).contains(&v)
 }
 
 // A call is accepted, or refused by document 01's name.
 #[derive(Clone, Copy)]
 pub enum Verdict {
-    Accepted,
-    Setup,
-    State,
-    Frame,
-    Value,
-    NoRoom,
-    Ragged,
-    NotStale,
-    Image,
+    Accepted = 0,
+    Setup = 1,
+    State = 2,
+    Frame = 3,
+    Value = 4,
+    NoRoom = 5,
+    Ragged = 6,
+    NotStale = 7,
+    Image = 8,
     // document 02's K12: more contacts than five or n; a type A frame that is not whole
-    TooMany,
-    Unfinished,
+    TooMany = 9,
+    Unfinished = 10,
     // document 02's K13
-    Command,
+    Command = 11,
 }
 
 impl Verdict {
@@ -92,20 +82,7 @@ impl Verdict {
     pub fn number(self) -> u8
         ensures { result ≡ verdict_number self }
     {
-        match self {
-            Verdict::Accepted => 0,
-            Verdict::Setup => 1,
-            Verdict::State => 2,
-            Verdict::Frame => 3,
-            Verdict::Value => 4,
-            Verdict::NoRoom => 5,
-            Verdict::Ragged => 6,
-            Verdict::NotStale => 7,
-            Verdict::Image => 8,
-            Verdict::TooMany => 9,
-            Verdict::Unfinished => 10,
-            Verdict::Command => 11,
-        }
+        self as u8
     }
 }
 
@@ -140,20 +117,10 @@ fn lost_step(mode: Mode, e: records::Event) -> Mode
     if e.kind != records::SYN {
         return mode;
     }
-    match mode {
-        Mode::Following => Mode::Following,
-        Mode::Dropped => {
-            if e.code == records::REPORT {
-                return Mode::Stale;
-            }
-            Mode::Dropped
-        }
-        Mode::Stale => {
-            if e.code == records::DROPPED {
-                return Mode::Dropped;
-            }
-            Mode::Stale
-        }
+    match (mode, e.code) {
+        (Mode::Dropped, records::REPORT) => Mode::Stale,
+        (Mode::Stale, records::DROPPED) => Mode::Dropped,
+        _ => mode,
     }
 }
 
@@ -164,11 +131,8 @@ pub fn last_mode(m: Mode, bytes: &[u8], k: usize) -> Mode
 {
     let count = bytes.len() / 8;
     let mut mode = m;
-    let mut i = k;
-    while i < count {
-        let e = records::record_at(bytes, 8 * i);
-        mode = lost_step(mode, e);
-        i += 1;
+    for i in k..count {
+        mode = lost_step(mode, records::record_at(bytes, 8 * i));
     }
     mode
 }

@@ -31,81 +31,61 @@ const UNUSED: u32 = 0xffff_ffff;
 fn syn_act(code: u16) -> Act
     ensures { act_of 0 code result ≡ syn_act code }
 {
-    if code == records::REPORT {
-        return Act::Report;
+    match code {
+        records::REPORT => Act::Report,
+        records::DROPPED => Act::Loss,
+        _ => Act::UnknownCode,
     }
-    if code == records::DROPPED {
-        return Act::Loss;
-    }
-    Act::UnknownCode
 }
 
 // A negative value has the bits of a number far above every n, so one comparison judges it.
+#[tactic(auto, using(common::proofs::Values::by_bits))]
 fn slot_act(n: usize, value: u32) -> Act
     requires { n ≤ crane_records }
     ensures { act_of 3 slot_code result ≡ slot_act n (signed_of value) }
 {
     let k = value as usize;
     if k < n {
-        return Act::Select(common::SlotNumber(k));
+        Act::Select(common::SlotNumber(k))
+    } else {
+        Act::Bad
     }
-    Act::Bad
 }
 
+#[tactic(auto, using(common::proofs::Values::by_bits))]
 fn id_act(value: u32) -> Act
     ensures { act_of 3 id_field.code result ≡ cond (fits id_field (signed_of value)) (number 0 (signed_of value)) bad }
 {
-    if value == UNUSED {
-        return Act::Id(common::TrackingId(common::TrackingId::UNUSED));
+    if value == UNUSED || value < common::TrackingId::COUNT {
+        Act::Id(common::TrackingId(value.cast_signed()))
+    } else {
+        Act::Bad
     }
-    if value < common::TrackingId::COUNT {
-        let id = value as i32;
-        return Act::Id(common::TrackingId(id));
-    }
-    Act::Bad
 }
 
+#[tactic(auto, using(common::proofs::Values::by_bits, crane_panel::proofs::Setups::small))]
 fn abs_act(setup: crane_panel::Setup, code: u16, value: u32) -> Act
     requires { setup_good crane (setup_of setup) ≡ true }
     ensures { act_of 3 code result ≡ abs_act (panel_seen setup) code (signed_of value) }
 {
-    if code == records::SLOT {
-        return slot_act(setup.n, value);
+    match code {
+        records::SLOT => slot_act(setup.n, value),
+        records::TRACKING_ID => id_act(value),
+        records::POSITION_X if value <= setup.x => Act::X(value),
+        records::POSITION_Y if value <= setup.y => Act::Y(value),
+        records::PRESSURE if value <= setup.pressure => Act::Pressure(value),
+        records::POSITION_X | records::POSITION_Y | records::PRESSURE => Act::Bad,
+        _ => Act::UnknownCode,
     }
-    if code == records::TRACKING_ID {
-        return id_act(value);
-    }
-    if code == records::POSITION_X {
-        if value <= setup.x {
-            return Act::X(value);
-        }
-        return Act::Bad;
-    }
-    if code == records::POSITION_Y {
-        if value <= setup.y {
-            return Act::Y(value);
-        }
-        return Act::Bad;
-    }
-    if code == records::PRESSURE {
-        if value <= setup.pressure {
-            return Act::Pressure(value);
-        }
-        return Act::Bad;
-    }
-    Act::UnknownCode
 }
 
 pub fn act_of(setup: crane_panel::Setup, e: records::Event) -> Act
     requires { setup_good crane (setup_of setup) ≡ true }
     ensures { act_of e.kind e.code result ≡ classify (panel_seen setup) (event_of e) }
 {
-    let kind = e.kind;
-    if kind == records::SYN {
-        return syn_act(e.code);
+    match e.kind {
+        records::SYN => syn_act(e.code),
+        records::ABS => abs_act(setup, e.code, e.value),
+        _ => Act::UnknownType,
     }
-    if kind == records::ABS {
-        return abs_act(setup, e.code, e.value);
-    }
-    Act::UnknownType
 }

@@ -36,21 +36,14 @@ pub fn lost(
     requires { k ≤ length bytes.now / 8 }
     ensures { result ≡ lost_at shown current (mode_of m) (counts_of before) (events_from (length bytes.now / 8 - k) bytes.now (8 * k)) }
 {
-    let count = bytes.len() / 8;
-    let mode = common::last_mode(m, bytes, k);
-    let first = before.first;
     Ended {
         shown,
         pending: shown,
         current,
-        mode,
+        mode: common::last_mode(m, bytes, k),
         counts: Counts {
-            shown: before.shown,
-            types: before.types,
-            codes: before.codes,
-            bad: before.bad,
-            ignored: count - k,
-            first,
+            ignored: bytes.len() / 8 - k,
+            ..before
         },
     }
 }
@@ -71,24 +64,20 @@ fn first_of(bytes: &[u8], skipped: usize, first: usize) -> FirstSkipped
 fn earliest(skipped: usize, first: usize, k: usize) -> usize
     ensures { result ≡ first_after skipped first k }
 {
-    if 0 < skipped {
-        return first;
-    }
-    k
+    if 0 < skipped { first } else { k }
 }
 
 fn counted(bytes: &[u8], shown: usize, types: usize, codes: usize, bad: usize, at: usize) -> Counts
     requires { (types + codes < 2 ^ 64) × FirstWithin (types + codes) at (length bytes.now) }
     ensures { result ≡ counts_from (counts_so_far shown types codes bad (first_at bytes.now (types + codes) at)) }
 {
-    let first = first_of(bytes, types + codes, at);
     Counts {
         shown,
         types,
         codes,
         bad,
         ignored: 0,
-        first,
+        first: first_of(bytes, types + codes, at),
     }
 }
 
@@ -113,20 +102,15 @@ pub fn follow(
     let mut types: usize = 0;
     let mut codes: usize = 0;
     let mut first: usize = 0;
-    let mut k: usize = 0;
-    while k < count {
-        let e = records::record_at(bytes, 8 * k);
-        let a = crane_acts::act_of(setup, e);
-        match a {
+    for k in 0..count {
+        match crane_acts::act_of(setup, records::record_at(bytes, 8 * k)) {
             Act::UnknownType => {
                 first = earliest(types + codes, first, k);
                 types += 1;
-                k += 1;
             }
             Act::UnknownCode => {
                 first = earliest(types + codes, first, k);
                 codes += 1;
-                k += 1;
             }
             Act::Bad => {
                 let c = counted(bytes, frames, types, codes, 1, first);
@@ -142,7 +126,6 @@ pub fn follow(
                 }
                 shown = pending;
                 frames += 1;
-                k += 1;
             }
             Act::Loss => {
                 let c = counted(bytes, frames, types, codes, 0, first);
@@ -150,30 +133,19 @@ pub fn follow(
             }
             Act::Select(s) => {
                 current = s.0;
-                k += 1;
             }
             Act::Id(v) => {
-                let old = pending[current];
                 written = true;
-                pending[current] = Slot {
-                    id: v,
-                    x: old.x,
-                    y: old.y,
-                    pressure: old.pressure,
-                };
-                k += 1;
+                pending[current].id = v;
             }
             Act::X(v) => {
                 pending[current].x = v;
-                k += 1;
             }
             Act::Y(v) => {
                 pending[current].y = v;
-                k += 1;
             }
             Act::Pressure(v) => {
                 pending[current].pressure = v;
-                k += 1;
             }
         }
     }

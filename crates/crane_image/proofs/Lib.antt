@@ -1,3 +1,3 @@
--- The laws behind the cranes' image; what holds of any image is in common.
--- Lent: a row of four numbers of a lent run, read through its bits.
-pub mod Lent
+-- The laws behind the image of a crane's load.
+-- Images: its rows one by one, the table as it is filled, and a row of four numbers of a lent run.
+pub mod Images

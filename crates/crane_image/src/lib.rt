@@ -23,19 +23,15 @@ fn slot_of(id: i32, x: i32, y: i32, pressure: i32) -> crane_panel::Slot
 fn row_ok(setup: crane_panel::Setup, id: i32, x: i32, y: i32, pressure: i32) -> bool
     ensures { result ≡ good_slot (fields_of setup) (id ∷ x ∷ y ∷ pressure ∷ []) }
 {
-    if !common::id_ok(id) {
-        return false;
-    }
-    crane_panel::numbers_ok(setup, x, y, pressure)
+    common::id_ok(id) && crane_panel::numbers_ok(setup, x, y, pressure)
 }
 
+#[tactic(auto, using(crate::proofs::Images::turns))]
 fn rows_ok(setup: crane_panel::Setup, image: &[i32]) -> bool
     requires { (setup.n ≤ crane_records) × (length image.now ≡ crane_per_slot * setup.n) }
     ensures { result ≡ good_records (fields_of setup) setup.n (rows_from crane_per_slot setup.n image.now 0) }
 {
-    let n = setup.n;
-    let mut i: usize = 0;
-    while i < n {
+    for i in 0..setup.n {
         let at = crane_panel::PER_SLOT * i;
         if !row_ok(
             setup,
@@ -46,12 +42,12 @@ fn rows_ok(setup: crane_panel::Setup, image: &[i32]) -> bool
         ) {
             return false;
         }
-        i += 1;
     }
     true
 }
 
 // The image's slots, and unused records from n up.
+#[tactic(auto, using(crate::proofs::Images::fills))]
 pub fn image_table(
     setup: crane_panel::Setup,
     image: &[i32],
@@ -59,30 +55,21 @@ pub fn image_table(
     requires { (setup.n ≤ crane_records) × (length image.now ≡ crane_per_slot * setup.n) }
     ensures { result ≡ table_from (image_table (panel_seen setup) image.now) }
 {
-    let n = setup.n;
     let mut t = crane_panel::unused_table();
-    let mut i: usize = 0;
-    while i < n {
+    for i in 0..setup.n {
         let at = crane_panel::PER_SLOT * i;
-        let s = slot_of(image[at], image[at + 1], image[at + 2], image[at + 3]);
-        t[i] = s;
-        i += 1;
+        t[i] = slot_of(image[at], image[at + 1], image[at + 2], image[at + 3]);
     }
     t
 }
 
+#[tactic(auto, using(crate::proofs::Images::tests))]
 pub fn image_ok(setup: crane_panel::Setup, image: &[i32], current: common::SlotNumber) -> bool
     requires { setup.n ≤ crane_records }
     ensures { result ≡ image_good (panel_seen setup) image.now current.0 }
 {
-    if image.len() != crane_panel::PER_SLOT * setup.n {
-        return false;
-    }
-    if !rows_ok(setup, image) {
-        return false;
-    }
-    if !crane_panel::ids_differ(setup.n, image_table(setup, image)) {
-        return false;
-    }
-    current.0 < setup.n
+    image.len() == crane_panel::PER_SLOT * setup.n
+        && rows_ok(setup, image)
+        && crane_panel::ids_differ(setup.n, image_table(setup, image))
+        && current.0 < setup.n
 }

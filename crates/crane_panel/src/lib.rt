@@ -20,7 +20,7 @@ pub const MOST_POSITION: usize = 32767;
 pub const MOST_PRESSURE: usize = 255;
 
 // The numbers of a slot are unsigned but for the id: only good numbers are ever held, and a test against a largest value is one comparison.
-#[derive(Clone, Copy)]
+#[derive(Clone, Copy, PartialEq, Eq)]
 pub struct Slot {
     pub id: TrackingId,
     pub x: u32,
@@ -72,61 +72,30 @@ pub fn zero_table() -> [Slot; RECORDS]
 pub fn setup_ok(s: Setup) -> bool
     ensures { result ≡ setup_good crane (setup_of s) }
 {
-    if !common::between(s.n, RECORDS) {
-        return false;
-    }
-    if !common::between(s.x as usize, MOST_POSITION) {
-        return false;
-    }
-    if !common::between(s.y as usize, MOST_POSITION) {
-        return false;
-    }
-    common::between(s.pressure as usize, MOST_PRESSURE)
+    common::between(s.n, RECORDS)
+        && common::between(s.x as usize, MOST_POSITION)
+        && common::between(s.y as usize, MOST_POSITION)
+        && common::between(s.pressure as usize, MOST_PRESSURE)
 }
 
 pub fn numbers_ok(setup: Setup, x: i32, y: i32, pressure: i32) -> bool
     ensures { result ≡ good_slot (axes_of setup) (x ∷ y ∷ pressure ∷ []) }
 {
-    if !common::within(x, setup.x) {
-        return false;
-    }
-    if !common::within(y, setup.y) {
-        return false;
-    }
-    common::within(pressure, setup.pressure)
+    common::within(x, setup.x)
+        && common::within(y, setup.y)
+        && common::within(pressure, setup.pressure)
 }
 
 fn slot_ok(setup: Setup, s: Slot) -> bool
     ensures { result ≡ good_slot (fields_of setup) (slot_of s) }
 {
-    let id = s.id;
-    if !common::id_ok(id.0) {
-        return false;
-    }
-    if setup.x < s.x {
-        return false;
-    }
-    if setup.y < s.y {
-        return false;
-    }
-    s.pressure <= setup.pressure
+    common::id_ok(s.id.0) && s.x <= setup.x && s.y <= setup.y && s.pressure <= setup.pressure
 }
 
 fn slots_same(a: Slot, b: Slot) -> bool
     ensures { result ≡ eq_slot (slot_of a) (slot_of b) }
 {
-    let p = a.id;
-    let q = b.id;
-    if !common::same(p.0, q.0) {
-        return false;
-    }
-    if a.x != b.x {
-        return false;
-    }
-    if a.y != b.y {
-        return false;
-    }
-    a.pressure == b.pressure
+    a == b
 }
 
 fn slot_unused(s: Slot) -> bool
@@ -136,60 +105,48 @@ fn slot_unused(s: Slot) -> bool
 }
 
 // Whether the panel's slots are good, whatever stands past them.
+#[tactic(auto, using(crate::proofs::Tables::turns))]
 fn slots_ok(setup: Setup, t: [Slot; RECORDS]) -> bool
     requires { setup.n ≤ crane_records }
     ensures { result ≡ good_records (fields_of setup) setup.n (table_of (take setup.n t)) }
 {
-    let n = setup.n;
-    let mut i: usize = 0;
-    while i < n {
+    for i in 0..setup.n {
         if !slot_ok(setup, t[i]) {
             return false;
         }
-        i += 1;
     }
     true
 }
 
+#[tactic(auto, using(crate::proofs::Tables::turns))]
 fn rest_unused(n: usize, t: [Slot; RECORDS]) -> bool
     ensures { result ≡ eq_table (table_of (drop n t)) (table_of (drop n unused_all)) }
 {
-    let mut i = n;
-    while i < RECORDS {
+    for i in n..RECORDS {
         if !slot_unused(t[i]) {
             return false;
         }
-        i += 1;
     }
     true
 }
 
 // Whether the first n records are good slots, and the others unused. A panel of all records has no others, and its table is not copied for them.
+#[tactic(auto, using(crate::proofs::Tables::good_parts))]
 pub fn table_ok(setup: Setup, t: [Slot; RECORDS]) -> bool
     requires { setup.n ≤ crane_records }
     ensures { result ≡ good_records (fields_of setup) setup.n (table_of t) }
 {
-    if !slots_ok(setup, t) {
-        return false;
-    }
-    if setup.n == RECORDS {
-        return true;
-    }
-    rest_unused(setup.n, t)
+    slots_ok(setup, t) && (setup.n == RECORDS || rest_unused(setup.n, t))
 }
 
 fn unheld_before(t: [Slot; RECORDS], k: usize, v: i32) -> bool
     requires { k ≤ crane_records }
     ensures { result ≡ unheld v (ids (table_of (take k t))) }
 {
-    let mut j: usize = 0;
-    while j < k {
-        let o = t[j];
-        let p = o.id;
-        if common::same(v, p.0) {
+    for j in 0..k {
+        if t[j].id.0 == v {
             return false;
         }
-        j += 1;
     }
     true
 }
@@ -200,37 +157,29 @@ pub fn ids_differ(n: usize, t: [Slot; RECORDS]) -> bool
     ensures { result ≡ ids_apart (table_of t) }
 {
     let mut met: u64 = 0;
-    let mut k: usize = 0;
-    while k < n {
-        let s = k;
-        let c = t[s];
-        let q = c.id;
-        let v = q.0;
-        k += 1;
-        if !common::same(v, -1) {
+    for k in 0..n {
+        let v = t[k].id.0;
+        if v != TrackingId::UNUSED {
             let bit = 1u64 << (common::nat_of(v) % 64);
             if met & bit == 0 {
-                met = met | bit;
-            } else {
-                if !unheld_before(t, s, v) {
-                    return false;
-                }
+                met |= bit;
+            } else if !unheld_before(t, k, v) {
+                return false;
             }
         }
     }
     true
 }
 
+#[tactic(auto, using(crate::proofs::Tables::turns))]
 pub fn tables_same(n: usize, a: [Slot; RECORDS], b: [Slot; RECORDS]) -> bool
     requires { (n ≤ crane_records) × SameFrom n a b }
     ensures { result ≡ eq_table (table_of a) (table_of b) }
 {
-    let mut s: usize = 0;
-    while s < n {
+    for s in 0..n {
         if !slots_same(a[s], b[s]) {
             return false;
         }
-        s += 1;
     }
     true
 }

@@ -111,8 +111,7 @@ fn settled_ok(
 {
     match m {
         Mode::Following => true,
-        Mode::Dropped => crane_panel::tables_same(n, shown, pending),
-        Mode::Stale => crane_panel::tables_same(n, shown, pending),
+        Mode::Dropped | Mode::Stale => crane_panel::tables_same(n, shown, pending),
     }
 }
 
@@ -143,11 +142,7 @@ fn tables_ok(s: ReaderState) -> bool
 pub fn state_ok(s: ReaderState) -> bool
     ensures { result ≡ reader_good crane (seen s) }
 {
-    let setup = s.setup;
-    if !crane_panel::setup_ok(setup) {
-        return false;
-    }
-    tables_ok(s)
+    crane_panel::setup_ok(s.setup) && tables_ok(s)
 }
 
 fn none() -> Counts
@@ -176,21 +171,19 @@ fn run_refused(state: ReaderState, verdict: Verdict) -> RunAnswer
 fn ran(setup: Setup, e: Ended) -> RunAnswer
     ensures { result ≡ accepted setup e }
 {
+    // By way of variables: an array field made part of a literal straight gets no generated proof.
     let shown = e.shown;
     let pending = e.pending;
-    let current = e.current;
-    let mode = e.mode;
-    let counts = e.counts;
     RunAnswer {
         verdict: Verdict::Accepted,
         state: ReaderState {
             setup,
             shown,
             pending,
-            current,
-            mode,
+            current: e.current,
+            mode: e.mode,
         },
-        counts,
+        counts: e.counts,
     }
 }
 
@@ -247,11 +240,7 @@ pub fn read_one(state: ReaderState, e: records::Event) -> RunAnswer
 fn is_stale(m: Mode) -> bool
     ensures { result ≡ stale_mode (mode_of m) }
 {
-    match m {
-        Mode::Following => false,
-        Mode::Dropped => false,
-        Mode::Stale => true,
-    }
+    matches!(m, Mode::Stale)
 }
 
 fn load_accepted(setup: Setup, image: &[i32], current: SlotNumber) -> LoadAnswer
@@ -281,31 +270,29 @@ pub fn load(state: ReaderState, image: &[i32], current: SlotNumber) -> LoadAnswe
             state,
         };
     }
-    let mode = state.mode;
-    if !is_stale(mode) {
+    if !is_stale(state.mode) {
         return LoadAnswer {
             verdict: Verdict::NotStale,
             state,
         };
     }
-    let setup = state.setup;
-    if !crane_image::image_ok(setup, image, current) {
+    if !crane_image::image_ok(state.setup, image, current) {
         return LoadAnswer {
             verdict: Verdict::Image,
             state,
         };
     }
-    load_accepted(setup, image, current)
+    load_accepted(state.setup, image, current)
 }
 
 fn shown_answer(s: Slot) -> SlotAnswer
     ensures { result ≡ asked_from (asked_in following (slot_of s)) }
 {
-    let id = s.id;
-    if common::same(id.0, TrackingId::UNUSED) {
-        return SlotAnswer::Empty;
+    if s.id.0 == TrackingId::UNUSED {
+        SlotAnswer::Empty
+    } else {
+        SlotAnswer::Contact(s)
     }
-    SlotAnswer::Contact(s)
 }
 
 // NO EVENT IS NOT NO FINGER: a reader that lost track answers Unknown and never an old table.
@@ -315,8 +302,7 @@ fn answer_in(m: Mode, shown: [Slot; crane_panel::RECORDS], k: usize) -> SlotAnsw
 {
     match m {
         Mode::Following => shown_answer(shown[k]),
-        Mode::Dropped => SlotAnswer::Unknown,
-        Mode::Stale => SlotAnswer::Unknown,
+        Mode::Dropped | Mode::Stale => SlotAnswer::Unknown,
     }
 }
 
@@ -327,12 +313,8 @@ pub fn ask(state: ReaderState, slot: SlotNumber) -> SlotAnswer
     if !state_ok(state) {
         return SlotAnswer::Refused(Verdict::State);
     }
-    let setup = state.setup;
-    let k = slot.0;
-    if setup.n <= k {
+    if state.setup.n <= slot.0 {
         return SlotAnswer::NoSuchSlot;
     }
-    let mode = state.mode;
-    let shown = state.shown;
-    answer_in(mode, shown, k)
+    answer_in(state.mode, state.shown, slot.0)
 }

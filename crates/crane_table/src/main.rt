@@ -1,197 +1,130 @@
 // What a crane's display shows: reads what the product's writer writes, the setup of six numbers and event records, from standard input, and shows what a fresh cranes' reader makes of them.
 #![tactic(auto)]
 
-mod lines;
 mod setup;
 
-ghost use Rattle.std.specs.Prelude.{◌≡◌, true};
-
-use common::{Counts, Verdict};
+use common::{Counts, Mode, Verdict};
 use crane_reader::ReaderState;
-use setup::Header;
-use std::io::{Error, Stdin};
-use stream::Out;
+use setup::Bad;
+use std::io::Error;
+use stream::{Ended, Out, say, warn};
 
-// How the reading stands: the reader; how many records it read while following, and how many of them have an unknown type; the bytes of a record that is cut; whether there is more, or a read failed.
-#[derive(Clone, Copy)]
-struct Reading {
-    state: ReaderState,
+// How many records were read while following, and how many of them have an unknown type. They are for a hint alone, so they may wrap.
+#[derive(Clone, Copy, Default)]
+struct Tally {
     followed: u64,
     strange: u64,
-    rest: usize,
-    again: bool,
-    failed: Option<Error>,
 }
 
-// The counts are for a hint alone, so they may wrap. A size is skipped for its code and is not strange.
-fn read_records(r: Reading, bytes: &[u8]) -> Reading {
-    let s = r.state;
-    let a = crane_reader::run(s, bytes);
-    let state = a.state;
-    let counts: Counts = a.counts;
-    let followed = std::num::wrapping_sub_u64((bytes.len() / 8) as u64, counts.ignored as u64);
-    Reading {
-        state,
-        followed: std::num::wrapping_add_u64(r.followed, followed),
-        strange: std::num::wrapping_add_u64(r.strange, counts.types as u64),
-        rest: 0,
-        again: false,
-        failed: None,
+impl Tally {
+    // So many records more, with a call's counts of them. A size is skipped for its code and is not strange.
+    fn add(&mut self, count: u64, c: Counts) {
+        let followed = count.wrapping_sub(c.ignored as u64);
+        self.followed = self.followed.wrapping_add(followed);
+        self.strange = self.strange.wrapping_add(c.types as u64);
     }
 }
 
-// A buffer's whole records. It is full while there is more, so a record is cut only at the end or by a failed read: one that two reads bring is whole here.
-fn read_some(input: Stdin, r: Reading) -> Reading
-    ensures { result.again ≡ true → result.rest ≡ 0 }
-{
-    let mut buf = io::large_buffer();
-    let f = stream::fill(input, &mut buf);
-    let n = f.n;
-    let rest = n % 8;
-    let whole = n - rest;
-    let q = read_records(r, &buf[..whole]);
-    let state = q.state;
-    if let Some(why) = f.failed {
-        return Reading {
-            state,
-            followed: q.followed,
-            strange: q.strange,
-            rest,
-            again: false,
-            failed: Some(why),
-        };
-    }
-    if f.ended {
-        return Reading {
-            state,
-            followed: q.followed,
-            strange: q.strange,
-            rest,
-            again: false,
-            failed: None,
-        };
-    }
-    Reading {
-        state,
-        followed: q.followed,
-        strange: q.strange,
-        rest,
-        again: true,
-        failed: None,
+// Where most records have an unknown type, they may be Linux's own, with a time before each; such a table can look right.
+// Three fifths: two of three are times. Sizes are not among them, however many there are.
+fn hint(out: &mut Out, t: Tally) {
+    let taken = t.followed.wrapping_sub(t.strange);
+    if t.followed >= 3 && t.strange >= taken.wrapping_add(taken / 2 + taken % 2) {
+        warn!(
+            out,
+            "{}: most records have an unknown type: Linux's struct input_event has 24 bytes, and only the last 8 are a record here\n",
+            out.name()
+        );
     }
 }
 
-// A proved loop has to end, and nothing says that the input does: the turns are counted down from a number that no run uses up.
-fn read_all(input: Stdin, s: ReaderState) -> Reading {
-    let mut r = Reading {
-        state: s,
-        followed: 0,
-        strange: 0,
-        rest: 0,
-        again: true,
-        failed: None,
-    };
-    let mut turns = u64::MAX;
-    while turns > 0 {
-        r = read_some(input, r);
-        if !r.again {
-            return r;
+// The mode and the current slot, and if following a line for each slot, its number and then its four.
+fn say_state(out: &mut Out, state: ReaderState) {
+    say!(out, "{} {}\n", state.mode, state.current.0);
+    if matches!(state.mode, Mode::Following) {
+        for (k, s) in state.shown.iter().enumerate().take(state.setup.n) {
+            say!(out, "{k} {} {} {} {}\n", s.id.0, s.x, s.y, s.pressure);
         }
-        turns -= 1;
     }
-    r
+}
+
+fn say_end(out: &mut Out, tally: Tally, state: ReaderState) {
+    hint(out, tally);
+    say_state(out, state);
+}
+
+fn refuse_rest(out: &mut Out, rest: usize) {
+    out.say_refused(Verdict::Ragged);
+    warn!(
+        out,
+        "{}: the last record is cut: {rest} of 8 bytes\n",
+        out.name()
+    );
+}
+
+fn warn_lost(out: &mut Out, why: Error) {
+    out.read_failed(why);
+    warn!(
+        out,
+        "{}: input was lost, which counts as SYN_DROPPED\n",
+        out.name()
+    );
 }
 
 // A failed read is a loss and not the end of input: nobody knows what was lost with it.
-fn lose(s: ReaderState) -> ReaderState {
+fn lose(state: ReaderState) -> ReaderState {
     let loss = records::Event {
         kind: records::SYN,
         code: records::DROPPED,
         value: 0,
     };
-    let a = crane_reader::read_one(s, loss);
-    a.state
+    crane_reader::read_one(state, loss).state
 }
 
-// Where most records have an unknown type, they may be Linux's own, with a time before each; such a table can look right.
-// Three fifths: two of three are times. Sizes are not among them, however many there are.
-fn hint(out: Out, followed: u64, strange: u64) -> Out {
-    if followed < 3 {
-        return out;
-    }
-    let taken = std::num::wrapping_sub_u64(followed, strange);
-    if strange < std::num::wrapping_add_u64(taken, taken / 2 + taken % 2) {
-        return out;
-    }
-    stream::warn(
-        out,
-        b"crane_table: most records have an unknown type: Linux's struct input_event has 24 bytes, and only the last 8 are a record here\n",
-    )
+// Whole records.
+fn read_records(state: &mut ReaderState, tally: &mut Tally, bytes: &[u8]) {
+    let a = crane_reader::run(*state, bytes);
+    *state = a.state;
+    tally.add((bytes.len() / 8) as u64, a.counts);
 }
 
-fn refuse_rest(page: &mut [u8], out: Out, rest: usize) -> Out {
-    let a = stream::say_refused(page, out, Verdict::Ragged);
-    stream::warn_part(
-        a,
-        b"crane_table: the last record is cut: ",
-        rest as u64,
-        b" of 8 bytes\n",
-    )
+// A record that is cut is held until the next bytes end it.
+fn show(out: &mut Out, begun: ReaderState) {
+    let mut buf = io::large_buffer();
+    let mut state = begun;
+    let mut tally = Tally::default();
+    let ended = out.take_input(&mut buf, |_, bytes| {
+        let whole = bytes.len() - bytes.len() % 8;
+        read_records(&mut state, &mut tally, &bytes[..whole]);
+        whole
+    });
+    match ended {
+        Ended::ReadFailed(_, why) => {
+            warn_lost(out, why);
+            say_end(out, tally, lose(state));
+        }
+        Ended::Input(0) => say_end(out, tally, state),
+        Ended::Input(rest) => refuse_rest(out, rest),
+        Ended::WriteFailed => {}
+    }
 }
 
-fn show(page: &mut [u8], out: Out, s: ReaderState) -> Out {
-    let r = read_all(out.streams.input, s);
-    let state = r.state;
-    if let Some(why) = r.failed {
-        let a = stream::read_failed(out, b"crane_table", why);
-        let b = stream::warn(
-            a,
-            b"crane_table: input was lost, which counts as SYN_DROPPED\n",
-        );
-        let c = hint(b, r.followed, r.strange);
-        return lines::say_state(page, c, lose(state));
+fn begin(out: &mut Out) -> Result<ReaderState, Bad> {
+    let s = setup::read(out)?;
+    let a = ReaderState::fresh(s.n, s.x, s.y, s.pressure);
+    match a.verdict {
+        Verdict::Accepted => Ok(a.state),
+        _ => Err(Bad::Range(s)),
     }
-    if r.rest != 0 {
-        return refuse_rest(page, out, r.rest);
-    }
-    let d = hint(out, r.followed, r.strange);
-    lines::say_state(page, d, state)
 }
 
-fn refuse_setup(page: &mut [u8], out: Out, h: Header) -> Out {
-    let a = stream::say_refused(page, out, Verdict::Setup);
-    setup::explain(a, h)
-}
-
-fn after_setup(page: &mut [u8], out: Out, h: Header) -> Out {
-    if h.count < setup::BYTES {
-        return refuse_setup(page, out, h);
+fn answer(out: &mut Out) {
+    match begin(out) {
+        Ok(state) => show(out, state),
+        Err(bad) => setup::say_refused(out, bad),
     }
-    let a = ReaderState::fresh(h.n as usize, h.x, h.y, h.pressure);
-    let v = a.verdict;
-    if v.number() != 0 {
-        return refuse_setup(page, out, h);
-    }
-    let state = a.state;
-    show(page, out, state)
-}
-
-fn answer(page: &mut [u8], out: Out) -> Out {
-    let h = setup::read(out.streams.input);
-    if let Some(why) = h.failed {
-        let a = stream::read_failed(out, b"crane_table", why);
-        return after_setup(page, a, h);
-    }
-    after_setup(page, out, h)
 }
 
 fn main(rt: HostRuntime) {
-    let mut page = io::buffer();
-    let begun = stream::begin(&rt, b"crane_table");
-    if begun.status != stream::ACCEPTED {
-        stream::finish(&page, begun, b"crane_table");
-        return;
-    }
-    let out = answer(&mut page, begun);
-    stream::finish(&page, out, b"crane_table");
+    stream::run(&rt, "crane_table", answer);
 }

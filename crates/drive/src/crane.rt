@@ -1,14 +1,13 @@
 // The calls of the cranes' reader: states made of a line's numbers, and answers as numbers. As for the product's reader, in four numbers a slot.
 ghost use Rattle.std.specs.Prelude.{◌≤◌};
 
-use crate::{say, states};
-use common::{SlotNumber, TrackingId};
+use crate::{parts, states};
+use common::TrackingId;
 use crane_panel::{PER_SLOT, RECORDS, Setup, Slot};
 use crane_reader::{ReaderState, RunAnswer, SlotAnswer};
-use drive_devices::parts;
-use drive_lines::calls::{CRANE_READER, CRANE_SETUP, CRANE_TABLE, NUMBERS};
+use drive_lines::kinds::{CRANE_READER, CRANE_SETUP, CRANE_TABLE};
 use drive_lines::values;
-use stream::Out;
+use stream::{Out, say};
 
 fn setup_of(ns: &[u64]) -> Setup {
     Setup {
@@ -34,11 +33,8 @@ fn table_of(ns: &[u64], from: usize) -> [Slot; RECORDS]
     requires { from ≤ 1000 }
 {
     let mut t = crane_panel::zero_table();
-    let mut k: usize = 0;
-    while k < RECORDS {
-        let at = from + PER_SLOT * k;
-        t[k] = slot_of(ns, at);
-        k += 1;
+    for (k, slot) in t.iter_mut().enumerate() {
+        *slot = slot_of(ns, from + PER_SLOT * k);
     }
     t
 }
@@ -48,120 +44,75 @@ fn reader_of(ns: &[u64]) -> ReaderState {
         setup: setup_of(ns),
         shown: table_of(ns, CRANE_SETUP + 2),
         pending: table_of(ns, CRANE_SETUP + 2 + CRANE_TABLE),
-        current: SlotNumber(values::number(ns, CRANE_SETUP) as usize),
+        current: states::slot_number(ns, CRANE_SETUP),
         mode: states::mode_of(values::number(ns, CRANE_SETUP + 1)),
     }
 }
 
-fn say_setup(page: &mut [u8], out: Out, s: Setup) -> Out {
-    let a = parts::number(page, out, s.n);
-    say_three(page, a, s.x, s.y, s.pressure)
-}
-
-fn say_three(page: &mut [u8], out: Out, x: u32, y: u32, pressure: u32) -> Out {
-    let a = words::say_number(page, out, x as u64);
-    let b = words::say_number(page, a, y as u64);
-    words::say_number(page, b, pressure as u64)
-}
-
 // Each number after a blank.
-fn say_slot(page: &mut [u8], out: Out, s: Slot) -> Out {
-    let id = s.id;
-    let a = stream::say(page, out, b" ");
-    let b = stream::say_signed(page, a, id.0);
-    say_three(page, b, s.x, s.y, s.pressure)
+fn say_slot(out: &mut Out, s: Slot) {
+    say!(out, " {} {} {} {}", s.id.0, s.x, s.y, s.pressure);
 }
 
-fn say_table(page: &mut [u8], out: Out, t: [Slot; RECORDS]) -> Out {
-    let mut o = out;
-    let mut at: usize = 0;
-    while at < RECORDS {
-        o = say_slot(page, o, t[at]);
-        at += 1;
+fn say_table(out: &mut Out, table: &[Slot; RECORDS]) {
+    for slot in table {
+        say_slot(out, *slot);
     }
-    o
 }
 
-fn say_reader(page: &mut [u8], out: Out, s: ReaderState) -> Out {
+fn say_reader(out: &mut Out, s: ReaderState) {
     let u = s.setup;
-    let current = s.current;
-    let m = s.mode;
-    let shown = s.shown;
-    let pending = s.pending;
-    let a = say_setup(page, out, u);
-    let b = parts::number(page, a, current.0);
-    let c = say::mode(page, b, m);
-    let d = say_table(page, c, shown);
-    say_table(page, d, pending)
+    say!(out, " {} {} {} {}", u.n, u.x, u.y, u.pressure);
+    say!(out, " {} {}", s.current.0, s.mode as u8);
+    say_table(out, &s.shown);
+    say_table(out, &s.pending);
 }
 
-pub fn fresh(page: &mut [u8], out: Out, ns: &[u64]) -> Out {
+pub fn fresh(out: &mut Out, ns: &[u64]) {
     let s = setup_of(ns);
     let a = ReaderState::fresh(s.n, s.x, s.y, s.pressure);
-    let verdict = a.verdict;
-    let state = a.state;
-    let o = parts::verdict(page, out, verdict);
-    say_reader(page, o, state)
+    say!(out, "{}", a.verdict);
+    say_reader(out, a.state);
 }
 
-fn ran(page: &mut [u8], out: Out, a: RunAnswer) -> Out {
-    let verdict = a.verdict;
-    let state = a.state;
-    let counts = a.counts;
-    let o = parts::verdict(page, out, verdict);
-    let p = say_reader(page, o, state);
-    say::counts(page, p, counts)
+fn ran(out: &mut Out, a: RunAnswer) {
+    say!(out, "{}", a.verdict);
+    say_reader(out, a.state);
+    parts::counts(out, a.counts);
 }
 
-pub fn run(page: &mut [u8], out: Out, ns: &[u64]) -> Out {
-    let mut bytes = [0u8; NUMBERS];
-    let count = values::bytes_of(ns, CRANE_READER, &mut bytes);
-    ran(page, out, crane_reader::run(reader_of(ns), &bytes[..count]))
+pub fn run(out: &mut Out, ns: &[u64]) {
+    let bytes = values::bytes_of(ns, CRANE_READER);
+    ran(out, crane_reader::run(reader_of(ns), bytes.as_slice()));
 }
 
-pub fn one(page: &mut [u8], out: Out, ns: &[u64]) -> Out {
-    let e = records::Event {
-        kind: values::half(ns, CRANE_READER),
-        code: values::half(ns, CRANE_READER + 1),
-        value: values::natural(ns, CRANE_READER + 2),
-    };
-    ran(page, out, crane_reader::read_one(reader_of(ns), e))
+pub fn one(out: &mut Out, ns: &[u64]) {
+    let e = states::record_at(ns, CRANE_READER);
+    ran(out, crane_reader::read_one(reader_of(ns), e));
 }
 
-pub fn load(page: &mut [u8], out: Out, ns: &[u64]) -> Out {
-    let mut image = [0i32; NUMBERS];
-    let count = values::frame_of(ns, CRANE_READER + 1, &mut image);
-    let current = SlotNumber(values::number(ns, CRANE_READER) as usize);
-    let a = crane_reader::load(reader_of(ns), &image[..count], current);
-    let verdict = a.verdict;
-    let state = a.state;
-    let o = parts::verdict(page, out, verdict);
-    say_reader(page, o, state)
+pub fn load(out: &mut Out, ns: &[u64]) {
+    let current = states::slot_number(ns, CRANE_READER);
+    let image = values::frame_of(ns, CRANE_READER + 1);
+    let a = crane_reader::load(reader_of(ns), image.as_slice(), current);
+    say!(out, "{}", a.verdict);
+    say_reader(out, a.state);
 }
 
-fn say_contact(page: &mut [u8], out: Out, s: Slot) -> Out {
-    let a = stream::say(page, out, b"contact");
-    say_slot(page, a, s)
-}
-
-fn say_answer(page: &mut [u8], out: Out, a: SlotAnswer) -> Out {
-    match a {
-        SlotAnswer::Contact(s) => say_contact(page, out, s),
-        SlotAnswer::Empty => stream::say(page, out, b"empty"),
-        SlotAnswer::Unknown => stream::say(page, out, b"unknown"),
-        SlotAnswer::NoSuchSlot => stream::say(page, out, b"none"),
-        SlotAnswer::Refused(v) => say::refused(page, out, v),
+pub fn ask(out: &mut Out, ns: &[u64]) {
+    let slot = states::slot_number(ns, CRANE_READER);
+    match crane_reader::ask(reader_of(ns), slot) {
+        SlotAnswer::Contact(slot) => {
+            say!(out, "contact");
+            say_slot(out, slot);
+        }
+        SlotAnswer::Empty => say!(out, "empty"),
+        SlotAnswer::Unknown => say!(out, "unknown"),
+        SlotAnswer::NoSuchSlot => say!(out, "none"),
+        SlotAnswer::Refused(verdict) => say!(out, "refused {verdict}"),
     }
 }
 
-pub fn ask(page: &mut [u8], out: Out, ns: &[u64]) -> Out {
-    let slot = SlotNumber(values::number(ns, CRANE_READER) as usize);
-    say_answer(page, out, crane_reader::ask(reader_of(ns), slot))
-}
-
-pub fn good(page: &mut [u8], out: Out, ns: &[u64]) -> Out {
-    if crane_reader::state_ok(reader_of(ns)) {
-        return stream::say(page, out, b"1");
-    }
-    stream::say(page, out, b"0")
+pub fn good(out: &mut Out, ns: &[u64]) {
+    say!(out, "{}", u8::from(crane_reader::state_ok(reader_of(ns))));
 }

@@ -2,7 +2,7 @@
 ghost use Rattle.std.specs.Prelude.{◌≤◌};
 
 use common::{Mode, SlotNumber, TrackingId};
-use drive_lines::calls::{OPTION, RANKS, SETUP, TABLE};
+use drive_lines::kinds::{OPTION, RANKS, SETUP, TABLE};
 use drive_lines::values;
 use panel::{PER_SLOT, RECORDS, Setup, Slot};
 use pointer::Pointer;
@@ -37,13 +37,14 @@ fn table_of(ns: &[u64], from: usize) -> [Slot; RECORDS]
     requires { from ≤ 1000 }
 {
     let mut t = panel::zero_table();
-    let mut k: usize = 0;
-    while k < RECORDS {
-        let at = from + PER_SLOT * k;
-        t[k] = slot_of(ns, at);
-        k += 1;
+    for (k, slot) in t.iter_mut().enumerate() {
+        *slot = slot_of(ns, from + PER_SLOT * k);
     }
     t
+}
+
+pub fn slot_number(ns: &[u64], i: usize) -> SlotNumber {
+    SlotNumber(values::number(ns, i) as usize)
 }
 
 pub fn mode_of(v: u64) -> Mode {
@@ -59,7 +60,7 @@ pub fn reader_of(ns: &[u64]) -> ReaderState {
         setup: setup_of(ns),
         shown: table_of(ns, SETUP + 2),
         pending: table_of(ns, SETUP + 2 + TABLE),
-        current: SlotNumber(values::number(ns, SETUP) as usize),
+        current: slot_number(ns, SETUP),
         mode: mode_of(values::number(ns, SETUP + 1)),
     }
 }
@@ -74,12 +75,6 @@ fn told_of(ns: &[u64]) -> Pointer {
     }
 }
 
-fn ranks_of(ns: &[u64]) -> [u8; RECORDS] {
-    let mut ranks = [0u8; RECORDS];
-    values::bytes_of(ns, RANKS, &mut ranks);
-    ranks
-}
-
 pub fn option_of(ns: &[u64], i: usize) -> bool {
     values::number(ns, i) == 1
 }
@@ -87,11 +82,22 @@ pub fn option_of(ns: &[u64], i: usize) -> bool {
 pub fn writer_of(ns: &[u64]) -> WriterState {
     WriterState {
         table: table_of(ns, SETUP + 2),
-        ranks: ranks_of(ns),
+        ranks: values::array_of(ns, RANKS),
         setup: setup_of(ns),
-        current: SlotNumber(values::number(ns, SETUP) as usize),
+        current: slot_number(ns, SETUP),
         counter: values::natural(ns, SETUP + 1),
         told: told_of(ns),
         pointer: option_of(ns, OPTION),
+    }
+}
+
+// The record that stands from number i on: its type, code and value.
+pub fn record_at(ns: &[u64], i: usize) -> records::Event
+    requires { i ≤ 12000 }
+{
+    records::Event {
+        kind: values::half(ns, i),
+        code: values::half(ns, i + 1),
+        value: values::natural(ns, i + 2),
     }
 }

@@ -1,36 +1,38 @@
 // What a script's calls of the devices beside the panel answer: the pod, the commands to it, the shift recorder and the force stick.
-// `answer` makes a call on the proved library and says every part of its answer; `parts` is for the panel's calls too.
+// `answer` makes a call on the proved library and says every part of its answer; `say_buffer` is for the panel's calls too.
 #![tactic(auto)]
 
 mod blocks;
 mod orders;
-pub mod parts;
 mod pods;
 mod stick;
 
 use drive_lines::calls::Call;
-use stream::Out;
+use stream::{Out, say};
+
+// A buffer's bytes behind an answer's numbers.
+pub fn say_buffer(out: &mut Out, bytes: &[u8]) {
+    say!(out, " :");
+    words::say_bytes(out, bytes);
+}
 
 // A call that is no device's is answered by nothing.
-pub fn answer(page: &mut [u8], out: Out, call: Call, ns: &[u64]) -> Out {
+pub fn answer(out: &mut Out, call: Call, ns: &[u64]) {
     match call {
-        Call::Start => pods::start(page, out),
-        Call::Pod => pods::bytes(page, out, ns),
-        Call::RecorderBlock => blocks::block(page, out, ns),
-        Call::RecorderLay => blocks::lay(page, out, ns),
-        Call::RecorderRead => blocks::read(page, out, ns),
-        Call::ForceRead => stick::read(page, out, ns),
-        Call::ForceWrite => stick::write(page, out, ns),
-        Call::CommandsRead => orders::read(page, out, ns),
-        Call::CommandsWrite => orders::write(page, out, ns),
-        _ => out,
+        Call::Start => pods::start(out),
+        Call::Pod => pods::bytes(out, ns),
+        Call::RecorderBlock => blocks::block(out, ns),
+        Call::RecorderLay => blocks::lay(out, ns),
+        Call::RecorderRead => blocks::read(out, ns),
+        Call::ForceRead => stick::read(out, ns),
+        Call::ForceWrite => stick::write(out, ns),
+        Call::CommandsRead => orders::read(out, ns),
+        Call::CommandsWrite => orders::write(out, ns),
+        _ => {}
     }
 }
 
 // What the numbers of a device's call must be beyond their kinds.
 pub fn together(call: Call, ns: &[u64]) -> bool {
-    match call {
-        Call::CommandsWrite => orders::whole(ns),
-        _ => true,
-    }
+    call != Call::CommandsWrite || orders::whole(ns)
 }

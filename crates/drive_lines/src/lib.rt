@@ -2,5 +2,6 @@
 #![tactic(auto)]
 
 pub mod calls;
+pub mod kinds;
 pub mod numbers;
 pub mod values;

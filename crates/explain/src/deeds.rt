@@ -23,41 +23,26 @@ pub struct Read {
     pub deed: Deed,
 }
 
-// No count moved: while the reader follows something was set, and SYN_DROPPED that finds it following adds to none.
-fn uncounted(m: Mode) -> Deed {
-    match m {
+// One record adds to one count at most. Where none moved, something was set if the reader follows; SYN_DROPPED that finds it following adds to none.
+fn deed_of(c: Counts, after: Mode) -> Deed {
+    match after {
+        _ if c.ignored != 0 => Deed::Ignored,
+        _ if c.bad != 0 => Deed::Bad,
+        _ if c.types != 0 => Deed::UnknownType,
+        _ if c.codes != 0 => Deed::UnknownCode,
+        _ if c.shown != 0 => Deed::Shown,
         Mode::Following => Deed::Set,
-        Mode::Dropped => Deed::Lost,
-        Mode::Stale => Deed::Lost,
+        Mode::Dropped | Mode::Stale => Deed::Lost,
     }
 }
 
-// One record adds to one count at most.
-fn deed_of(counts: Counts, m: Mode) -> Deed {
-    if counts.ignored != 0 {
-        return Deed::Ignored;
-    }
-    if counts.bad != 0 {
-        return Deed::Bad;
-    }
-    if counts.types != 0 {
-        return Deed::UnknownType;
-    }
-    if counts.codes != 0 {
-        return Deed::UnknownCode;
-    }
-    if counts.shown != 0 {
-        return Deed::Shown;
-    }
-    uncounted(m)
-}
-
-pub fn read_as(event: Event, before: ReaderState, after: ReaderState, counts: Counts) -> Read {
-    let m = after.mode;
+// The reader refuses no state that came from fresh, so there is no verdict to look at.
+pub fn read_one(before: ReaderState, event: Event) -> Read {
+    let a = reader::read_one(before, event);
     Read {
         event,
         before,
-        after,
-        deed: deed_of(counts, m),
+        after: a.state,
+        deed: deed_of(a.counts, a.state.mode),
     }
 }

@@ -2,10 +2,10 @@
 use crate::deeds::{Deed, Read};
 use common::Mode;
 use reader::ReaderState;
-use stream::Out;
+use stream::{Out, say};
 
-// How many records came; the five counts; the type and code of the first that was skipped, if one was; whether something was set since the last report.
-#[derive(Clone, Copy)]
+// How many records came; the five counts; the type and code of the first that was skipped; whether something was set since the last report. A count stays at the largest number.
+#[derive(Clone, Copy, Default)]
 pub struct Sums {
     pub records: u64,
     shown: u64,
@@ -13,136 +13,63 @@ pub struct Sums {
     codes: u64,
     bad: u64,
     ignored: u64,
-    first_kind: u16,
-    first_code: u16,
+    first: Option<(u16, u16)>,
     unshown: bool,
 }
 
-// A count stays at the largest number.
-fn one_more(count: u64) -> u64 {
-    if count == u64::MAX {
-        return count;
-    }
-    count + 1
-}
-
 impl Sums {
-    pub fn none() -> Sums {
-        Sums {
-            records: 0,
-            shown: 0,
-            types: 0,
-            codes: 0,
-            bad: 0,
-            ignored: 0,
-            first_kind: 0,
-            first_code: 0,
-            unshown: false,
-        }
-    }
-
-    fn none_skipped(self) -> bool {
-        if self.types != 0 {
-            return false;
-        }
-        self.codes == 0
-    }
-
-    fn first(mut self, e: records::Event) -> Sums {
-        if self.none_skipped() {
-            self.first_kind = e.kind;
-            self.first_code = e.code;
-        }
-        self
-    }
-
     // And one record more. A loss throws away what was not shown yet.
-    pub fn with(self, r: Read) -> Sums {
+    pub fn add(&mut self, r: &Read) {
         let e = r.event;
-        let deed = r.deed;
-        let mut s = self;
-        s.records = one_more(s.records);
-        match deed {
-            Deed::Ignored => {
-                s.ignored = one_more(s.ignored);
-            }
-            Deed::Bad => {
-                s.bad = one_more(s.bad);
-                s.unshown = false;
-            }
-            Deed::UnknownType => {
-                s = s.first(e);
-                s.types = one_more(s.types);
-            }
-            Deed::UnknownCode => {
-                s = s.first(e);
-                s.codes = one_more(s.codes);
-            }
-            Deed::Shown => {
-                s.shown = one_more(s.shown);
-                s.unshown = false;
-            }
-            Deed::Lost => {
-                s.unshown = false;
-            }
-            Deed::Set => {
-                s.unshown = s.unshown || e.code != records::SLOT;
-            }
+        self.records = self.records.saturating_add(1);
+        match r.deed {
+            Deed::Ignored => self.ignored = self.ignored.saturating_add(1),
+            Deed::Bad => self.bad = self.bad.saturating_add(1),
+            Deed::UnknownType => self.types = self.types.saturating_add(1),
+            Deed::UnknownCode => self.codes = self.codes.saturating_add(1),
+            Deed::Shown => self.shown = self.shown.saturating_add(1),
+            Deed::Lost | Deed::Set => {}
         }
-        s
-    }
-}
-
-fn say_mode(page: &mut [u8], out: Out, m: Mode) -> Out {
-    match m {
-        Mode::Following => stream::say(page, out, b"end: following"),
-        Mode::Dropped => stream::say(page, out, b"end: dropped"),
-        Mode::Stale => stream::say(page, out, b"end: stale"),
+        match r.deed {
+            Deed::UnknownType | Deed::UnknownCode => {
+                self.first = self.first.or(Some((e.kind, e.code)));
+            }
+            Deed::Bad | Deed::Shown | Deed::Lost => self.unshown = false,
+            Deed::Set => self.unshown = self.unshown || e.code != records::SLOT,
+            Deed::Ignored => {}
+        }
     }
 }
 
 // What a table cannot tell: a reader that lost track shows none, and what no report followed is in none.
-fn say_rest(page: &mut [u8], out: Out, m: Mode, unshown: bool) -> Out {
-    match m {
-        Mode::Following => {
-            if unshown {
-                return stream::say(
-                    page,
-                    out,
-                    b": what was set after the last SYN_REPORT is not shown\n",
-                );
-            }
-            stream::say(page, out, b"\n")
-        }
-        Mode::Dropped => stream::say(page, out, b": every slot is unknown\n"),
-        Mode::Stale => stream::say(page, out, b": every slot is unknown\n"),
+fn rest_of(mode: Mode, unshown: bool) -> &'static str {
+    match mode {
+        Mode::Following if unshown => ": what was set after the last SYN_REPORT is not shown",
+        Mode::Following => "",
+        Mode::Dropped | Mode::Stale => ": every slot is unknown",
     }
-}
-
-fn say_counts(page: &mut [u8], out: Out, s: Sums) -> Out {
-    let a = words::say_part(page, out, b"shown", s.shown);
-    let b = words::say_part(page, a, b", skipped of unknown type", s.types);
-    let c = words::say_part(page, b, b", skipped of unknown code", s.codes);
-    let d = words::say_part(page, c, b", bad", s.bad);
-    words::say_part(page, d, b", ignored", s.ignored)
-}
-
-fn say_first(page: &mut [u8], out: Out, s: Sums) -> Out {
-    if s.none_skipped() {
-        return stream::say(page, out, b"\nfirst skipped: none\n");
-    }
-    let a = words::say_part(page, out, b"\nfirst skipped: type", s.first_kind as u64);
-    let b = words::say_part(page, a, b" code", s.first_code as u64);
-    stream::say(page, b, b"\n")
 }
 
 // The mode, the current slot, the counts, and the first that was skipped.
-pub fn say_end(page: &mut [u8], out: Out, state: ReaderState, s: Sums) -> Out {
-    let m = state.mode;
-    let current = state.current;
-    let a = say_mode(page, out, m);
-    let b = words::say_part(page, a, b", current slot", current.0 as u64);
-    let c = say_rest(page, b, m, s.unshown);
-    let d = say_counts(page, c, s);
-    say_first(page, d, s)
+pub fn say_end(out: &mut Out, state: &ReaderState, s: Sums) {
+    let rest = rest_of(state.mode, s.unshown);
+    say!(
+        out,
+        "end: {}, current slot {}{rest}\n",
+        state.mode,
+        state.current.0
+    );
+    say!(
+        out,
+        "shown {}, skipped of unknown type {}, skipped of unknown code {}, bad {}, ignored {}\n",
+        s.shown,
+        s.types,
+        s.codes,
+        s.bad,
+        s.ignored
+    );
+    match s.first {
+        Some((kind, code)) => say!(out, "first skipped: type {kind} code {code}\n"),
+        None => say!(out, "first skipped: none\n"),
+    }
 }

@@ -1,54 +1,45 @@
 // A first program over the library: a hold-to-lift key that reads one finger's events. README.md shows the whole of it.
 #![tactic(auto)]
 
-use common::SlotNumber;
+use common::{SlotNumber, Verdict};
 use reader::{ReaderState, SlotAnswer};
-use stream::Out;
+use stream::{Out, say};
 
 // The load may rise only while a finger is known to hold the key. A reader that lost track answers Unknown, and that is not a finger.
 fn may_lift(state: ReaderState) -> bool {
     match reader::ask(state, SlotNumber(0)) {
         SlotAnswer::Contact(_) => true,
-        SlotAnswer::Empty => false,
-        SlotAnswer::Unknown => false,
-        SlotAnswer::NoSuchSlot => false,
-        SlotAnswer::Refused(_) => false,
+        SlotAnswer::Empty | SlotAnswer::Unknown | SlotAnswer::NoSuchSlot | SlotAnswer::Refused(_) =>
+            false,
     }
 }
 
-fn tell(page: &mut [u8], out: Out, state: ReaderState) -> Out {
+fn tell(out: &mut Out, state: ReaderState) {
     if may_lift(state) {
-        return stream::say(page, out, b"lift\n");
+        say!(out, "lift\n");
+    } else {
+        say!(out, "do not lift\n");
     }
-    stream::say(page, out, b"do not lift\n")
 }
 
-fn read_finger(page: &mut [u8], out: Out) -> Out {
+fn read_finger(out: &mut Out) {
     // A panel of one slot, with its largest x, y, pressure and sizes.
-    let fresh = ReaderState::fresh(1, 4000, 4000, 255, 255, 255);
-    let before = fresh.state;
+    let before = ReaderState::fresh(1, 4000, 4000, 255, 255, 255).state;
     // Tracking id 0 and a report: eight bytes each, type, code and value.
     let answer = reader::run(
         before,
         b"\x03\x00\x39\x00\x00\x00\x00\x00\x00\x00\x00\x00\x00\x00\x00\x00",
     );
-    // What is refused leaves the state as it was, so a host that does not look would go on with an old table.
-    let verdict = answer.verdict;
-    if verdict.number() != 0 {
-        return stream::say_refused(page, out, verdict);
+    match answer.verdict {
+        Verdict::Accepted => {
+            tell(out, before);
+            tell(out, answer.state);
+        }
+        // What is refused leaves the state as it was, so a host that does not look would go on with an old table.
+        refusal => out.say_refused(refusal),
     }
-    let after = answer.state;
-    let a = tell(page, out, before);
-    tell(page, a, after)
 }
 
 fn main(rt: HostRuntime) {
-    let mut page = io::buffer();
-    let begun = stream::begin(&rt, b"first_key");
-    if begun.status != stream::ACCEPTED {
-        stream::finish(&page, begun, b"first_key");
-        return;
-    }
-    let out = read_finger(&mut page, begun);
-    stream::finish(&page, out, b"first_key");
+    stream::run(&rt, "first_key", read_finger);
 }

@@ -36,21 +36,14 @@ pub fn lost(
     requires { k ≤ length bytes.now / 8 }
     ensures { result ≡ lost_at shown current (mode_of m) (counts_of before) (left_from bytes.now k) }
 {
-    let count = bytes.len() / 8;
-    let mode = common::last_mode(m, bytes, k);
-    let first = before.first;
     Ended {
         shown,
         pending: shown,
         current,
-        mode,
+        mode: common::last_mode(m, bytes, k),
         counts: Counts {
-            shown: before.shown,
-            types: before.types,
-            codes: before.codes,
-            bad: before.bad,
-            ignored: count - k,
-            first,
+            ignored: bytes.len() / 8 - k,
+            ..before
         },
     }
 }
@@ -72,10 +65,7 @@ fn first_of(bytes: &[u8], skipped: usize, first: usize) -> FirstSkipped
 pub fn earliest(skipped: usize, first: usize, k: usize) -> usize
     ensures { result ≡ first_after skipped first k }
 {
-    if 0 < skipped {
-        return first;
-    }
-    k
+    if 0 < skipped { first } else { k }
 }
 
 // What a run that follows has counted, here or in lent bytes; `first` is the number of the first record skipped.
@@ -91,14 +81,13 @@ pub fn counted(bytes: &[u8], so: SoFar, bad: usize) -> Counts
     requires { Skips so (length bytes.now) }
     ensures { result ≡ counts_from (so_far bytes.now so bad) }
 {
-    let first = first_of(bytes, so.types + so.codes, so.first);
     Counts {
         shown: so.frames,
         types: so.types,
         codes: so.codes,
         bad,
         ignored: 0,
-        first,
+        first: first_of(bytes, so.types + so.codes, so.first),
     }
 }
 
@@ -114,8 +103,14 @@ fn drops(
     requires { (k < length bytes.now / 8) × Skips so (length bytes.now) }
     ensures { result ≡ lost_at shown (record { 0 = current }) dropped (so_far bytes.now so bad) (left_from bytes.now (k + 1)) }
 {
-    let c = counted(bytes, so, bad);
-    lost(shown, SlotNumber(current), Mode::Dropped, bytes, k + 1, c)
+    lost(
+        shown,
+        SlotNumber(current),
+        Mode::Dropped,
+        bytes,
+        k + 1,
+        counted(bytes, so, bad),
+    )
 }
 
 // A run that begins following. The tables are changed in place: what an event changes is one number.
@@ -145,22 +140,17 @@ pub fn follow(
     };
     let mut from = current;
     let mut opened: usize = 2;
-    let mut k: usize = 0;
-    while k < count {
+    for k in 0..count {
         let act = acts::act_of(records::word_at(bytes, 8 * k));
         let value = records::word_at(bytes, 8 * k + 4);
         match act {
             Act::UnknownType => {
-                let f = earliest(so.types + so.codes, so.first, k);
-                so.first = f;
+                so.first = earliest(so.types + so.codes, so.first, k);
                 so.types += 1;
-                k += 1;
             }
             Act::UnknownCode => {
-                let f = earliest(so.types + so.codes, so.first, k);
-                so.first = f;
+                so.first = earliest(so.types + so.codes, so.first, k);
                 so.codes += 1;
-                k += 1;
             }
             Act::Report => {
                 if written {
@@ -171,17 +161,14 @@ pub fn follow(
                     written = false;
                 }
                 if opened < 2 {
-                    let last = pending[from];
-                    shown[from] = last;
-                    let now = pending[current];
-                    shown[current] = now;
+                    shown[from] = pending[from];
+                    shown[current] = pending[current];
                 } else {
                     shown = pending;
                 }
                 from = current;
                 opened = 0;
                 so.frames += 1;
-                k += 1;
             }
             Act::Loss => {
                 return drops(shown, current, bytes, k, so, 0);
@@ -193,59 +180,44 @@ pub fn follow(
                 }
                 current = slot;
                 opened += 1;
-                k += 1;
             }
             Act::Id => {
                 let v = records::signed_of(value);
                 if !common::id_ok(v) {
                     return drops(shown, current, bytes, k, so, 1);
                 }
-                let old = pending[current];
                 written = true;
-                pending[current] = Slot {
-                    id: TrackingId(v),
-                    x: old.x,
-                    y: old.y,
-                    pressure: old.pressure,
-                    major: old.major,
-                    minor: old.minor,
-                };
-                k += 1;
+                pending[current].id = TrackingId(v);
             }
             Act::X => {
                 if setup.x < value {
                     return drops(shown, current, bytes, k, so, 1);
                 }
                 pending[current].x = value;
-                k += 1;
             }
             Act::Y => {
                 if setup.y < value {
                     return drops(shown, current, bytes, k, so, 1);
                 }
                 pending[current].y = value;
-                k += 1;
             }
             Act::Pressure => {
                 if setup.pressure < value {
                     return drops(shown, current, bytes, k, so, 1);
                 }
                 pending[current].pressure = value;
-                k += 1;
             }
             Act::Major => {
                 if setup.major < value {
                     return drops(shown, current, bytes, k, so, 1);
                 }
                 pending[current].major = value;
-                k += 1;
             }
             Act::Minor => {
                 if setup.minor < value {
                     return drops(shown, current, bytes, k, so, 1);
                 }
                 pending[current].minor = value;
-                k += 1;
             }
         }
     }

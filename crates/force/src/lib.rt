@@ -3,6 +3,8 @@
 // and `signed_byte` are for a program that has a report's bytes in another order.
 #![tactic(auto)]
 
+mod words;
+
 ghost use Rattle.std.specs.Prelude.{◌≡◌, true, ◌&&◌, ◌≤◌, eqb, length};
 ghost use Rattle.model.specs.Records.{join16};
 ghost use Rattle.model.specs.Calls.{room_for};
@@ -71,10 +73,8 @@ fn check_of(bytes: &[u8]) -> u8
     ensures { result ≡ check_of bytes.now }
 {
     let mut sum = 0;
-    let mut i = 0;
-    while i < bytes.len() {
-        sum = sum ^ bytes[i];
-        i += 1;
+    for b in bytes {
+        sum ^= *b;
     }
     sum
 }
@@ -82,32 +82,21 @@ fn check_of(bytes: &[u8]) -> u8
 pub fn join(low: u8, high: u8) -> u16
     ensures { result ≡ join16 low high }
 {
-    (low as u16) + 256 * (high as u16)
+    u16::from_le_bytes([low, high])
 }
 
-// By the complement, since no cast of 0x8000 and more to an i16 is defined.
-fn signed_word(v: u16) -> i16
-    ensures { result ≡ signed_in word_values v }
-{
-    if v < 0x8000 {
-        return v as i16;
-    }
-    !((0xffff - v) as i16)
-}
-
+#[tactic(auto, unfolding(model::specs::Force::signed_in))]
 pub fn signed_byte(v: u8) -> i8
     ensures { result ≡ signed_in byte_values v }
 {
-    if v < 0x80 {
-        return v as i8;
-    }
-    !((0xff - v) as i8)
+    v.cast_signed()
 }
 
+#[tactic(auto, unfolding(model::specs::Force::signed_in))]
 pub fn word_of(low: u8, high: u8) -> i16
     ensures { result ≡ signed_in word_values (join16 low high) }
 {
-    signed_word(join(low, high))
+    i16::from_le_bytes([low, high])
 }
 
 // Eight data bytes. Byte 06 holds the buttons' upper bits in its lower half and the hat in its upper one.
@@ -115,19 +104,13 @@ fn report_of(bytes: &[u8]) -> Report
     requires { length bytes.now ≡ stick_data }
     ensures { result ≡ held (report_of bytes.now) }
 {
-    let x = word_of(bytes[0], bytes[1]);
-    let y = word_of(bytes[2], bytes[3]);
-    let throttle = bytes[4];
-    let buttons = join(bytes[5], bytes[6] % 16);
-    let hat = bytes[6] / 16;
-    let rudder = signed_byte(bytes[7]);
     Report {
-        x,
-        y,
-        throttle,
-        buttons,
-        hat,
-        rudder,
+        x: word_of(bytes[0], bytes[1]),
+        y: word_of(bytes[2], bytes[3]),
+        throttle: bytes[4],
+        buttons: join(bytes[5], bytes[6] % 16),
+        hat: bytes[6] / 16,
+        rudder: signed_byte(bytes[7]),
     }
 }
 
@@ -135,10 +118,7 @@ fn report_of(bytes: &[u8]) -> Report
 fn is_report(op: u8, len: u8) -> bool
     ensures { result ≡ (eqb op stick_op && eqb len stick_data) }
 {
-    if op != STICK_OP {
-        return false;
-    }
-    len == STICK_DATA
+    op == STICK_OP && len == STICK_DATA
 }
 
 // What a packet with a good CS says.
@@ -149,8 +129,7 @@ fn contents(op: u8, len: u8, bytes: &[u8]) -> Answer
     if !is_report(op, len) {
         return Answer::NotForUs(op, len);
     }
-    let report = report_of(bytes);
-    Answer::Report(report)
+    Answer::Report(report_of(bytes))
 }
 
 // LEN of a packet at the start of `packet`; 0 where it is not there yet, so that the packet is then too short as well.
@@ -203,14 +182,12 @@ fn packet_in(packet: &[u8]) -> ReadAnswer
 fn mark_from(bytes: &[u8], at: usize) -> usize
     ensures { result ≡ mark_from bytes.now at }
 {
-    let mut place = at;
-    while place < bytes.len() {
+    for place in at..bytes.len() {
         if bytes[place] == MARK {
             return place;
         }
-        place += 1;
     }
-    place
+    at.max(bytes.len())
 }
 
 // The packet at the first 0x2B from `at` on, and where reading goes on; nothing, at the end, where there is none.
@@ -222,35 +199,13 @@ pub fn read(bytes: &[u8], at: usize) -> ReadAnswer
         return answered(Answer::Nothing, bytes.len());
     }
     let found = packet_in(&bytes[place..]);
-    let answer = found.answer;
-    answered(answer, place + found.next)
-}
-
-fn word_bits(z: i16) -> u16
-    ensures { result ≡ bits_in word_values z }
-{
-    if 0 <= z {
-        return z as u16;
-    }
-    0xffff - (!z as u16)
-}
-
-fn byte_bits(z: i8) -> u8
-    ensures { result ≡ bits_in byte_values z }
-{
-    if 0 <= z {
-        return z as u8;
-    }
-    0xff - (!z as u8)
+    answered(found.answer, place + found.next)
 }
 
 fn report_ok(report: Report) -> bool
     ensures { result ≡ good_report (seen report) }
 {
-    if MOST_BUTTONS < report.buttons {
-        return false;
-    }
-    report.hat <= MOST_HAT
+    report.buttons <= MOST_BUTTONS && report.hat <= MOST_HAT
 }
 
 // A report's packet at the start of `b`; the other bytes stay.
@@ -258,31 +213,30 @@ fn put(b: &mut [u8], report: Report)
     requires { (stick_bytes ≤ length b.old) × (good_report (seen report) ≡ true) }
     ensures { b.new ≡ over (packet_of (seen report)) b.old }
 {
-    let x = word_bits(report.x);
-    let y = word_bits(report.y);
-    let rudder = byte_bits(report.rudder);
-    b[0] = MARK;
-    b[1] = STICK_OP;
-    b[2] = STICK_DATA;
-    b[3] = (x % 256) as u8;
-    b[4] = (x / 256 % 256) as u8;
-    b[5] = (y % 256) as u8;
-    b[6] = (y / 256 % 256) as u8;
-    b[7] = report.throttle;
-    b[8] = (report.buttons % 256) as u8;
-    b[9] = 16 * report.hat + (report.buttons / 256) as u8;
-    b[10] = rudder;
-    let sum = check_of(&b[..CHECK]);
-    b[CHECK] = sum;
+    let x = report.x.to_le_bytes();
+    let y = report.y.to_le_bytes();
+    let buttons = report.buttons.to_le_bytes();
+    let unchecked = [
+        MARK,
+        STICK_OP,
+        STICK_DATA,
+        x[0],
+        x[1],
+        y[0],
+        y[1],
+        report.throttle,
+        buttons[0],
+        16 * report.hat + buttons[1],
+        report.rudder.cast_unsigned(),
+    ];
+    b[..CHECK].copy_from_slice(&unchecked);
+    b[CHECK] = check_of(&unchecked);
 }
 
 fn has_room(size: usize, at: usize) -> bool
     ensures { result ≡ room_for stick_bytes at size }
 {
-    if size < at {
-        return false;
-    }
-    LENGTH <= size - at
+    at <= size && LENGTH <= size - at
 }
 
 // Writes a report's packet into `buf` from the position `at` on; refusals 4 and 5 in rising number.

@@ -16,12 +16,10 @@ fn in_range(v: i32, least: u32, top: u32) -> bool
     ensures { result ≡ between_z (pos least) (pos top) v }
 {
     let bits = records::bits_of(v);
-    if bits < least {
-        return false;
-    }
-    bits <= top
+    least <= bits && bits <= top
 }
 
+// By `&` and not `&&`: every test is made, and none is a branch of its own.
 fn numbers_in(setup: Setup, r: Row) -> bool
     requires { Fit31 setup }
     ensures { result ≡ good_contact (axes_of setup) (numbers_of (row_of r)) }
@@ -38,11 +36,5 @@ pub fn row_ok(setup: Setup, r: Row) -> bool
     requires { Fit31 setup }
     ensures { result ≡ good_row (axes_of setup) (row_of r) }
 {
-    if common::same(r.first, 0) {
-        return true;
-    }
-    if !in_range(r.first, 1, 2) {
-        return false;
-    }
-    numbers_in(setup, r)
+    common::same(r.first, 0) || in_range(r.first, 1, 2) && numbers_in(setup, r)
 }

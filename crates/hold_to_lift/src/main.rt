@@ -12,7 +12,7 @@ use common::SlotNumber;
 use panel::Setup;
 use reader::{ReaderState, SlotAnswer};
 use records::Event;
-use stream::Out;
+use stream::{Out, say};
 use writer::WriterState;
 
 // The load may rise only while a finger is known to hold the key. A reader that lost track answers Unknown, and that is not a finger.
@@ -28,12 +28,13 @@ fn may_lift(state: ReaderState) -> bool
     }
 }
 
-fn tell(page: &mut [u8], out: Out, when: &[u8], state: ReaderState) -> Out {
-    let a = stream::say(page, out, when);
-    if may_lift(state) {
-        return stream::say(page, a, b": lift\n");
-    }
-    stream::say(page, a, b": do not lift\n")
+fn tell(out: &mut Out, when: &str, state: ReaderState) {
+    let answer = if may_lift(state) {
+        "lift"
+    } else {
+        "do not lift"
+    };
+    say!(out, "{when}: {answer}\n");
 }
 
 // The reader after the events of a frame with one finger.
@@ -51,11 +52,9 @@ fn with_finger(before: ReaderState) -> ReaderState {
     };
     // Without pointer emulation, which only an old display needs.
     let fresh = WriterState::fresh(setup, false);
-    let state = fresh.state;
     // Every answer has a verdict; this one is Accepted, and count is 7.
-    writer::write(state, &frame, &mut events, 0);
-    let read = reader::run(before, &events);
-    read.state
+    writer::write(fresh.state, &frame, &mut events, 0);
+    reader::run(before, &events).state
 }
 
 // Linux says SYN_DROPPED where events were lost: the finger may have been lifted since.
@@ -65,27 +64,17 @@ fn with_loss(before: ReaderState) -> ReaderState {
         code: records::DROPPED,
         value: 0,
     };
-    let read = reader::read_one(before, loss);
-    read.state
+    reader::read_one(before, loss).state
 }
 
-fn tell_all(page: &mut [u8], out: Out) -> Out {
-    let fresh = ReaderState::fresh(1, 4000, 4000, 255, 255, 255);
-    let before = fresh.state;
+fn tell_all(out: &mut Out) {
+    let before = ReaderState::fresh(1, 4000, 4000, 255, 255, 255).state;
     let held = with_finger(before);
-    let lost = with_loss(held);
-    let a = tell(page, out, b"before any event", before);
-    let b = tell(page, a, b"a finger is down", held);
-    tell(page, b, b"events were lost", lost)
+    tell(out, "before any event", before);
+    tell(out, "a finger is down", held);
+    tell(out, "events were lost", with_loss(held));
 }
 
 fn main(rt: HostRuntime) {
-    let mut page = io::buffer();
-    let begun = stream::begin(&rt, b"hold_to_lift");
-    if begun.status != stream::ACCEPTED {
-        stream::finish(&page, begun, b"hold_to_lift");
-        return;
-    }
-    let out = tell_all(&mut page, begun);
-    stream::finish(&page, out, b"hold_to_lift");
+    stream::run(&rt, "hold_to_lift", tell_all);
 }

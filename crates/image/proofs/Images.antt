@@ -56,3 +56,10 @@ module _ (u : Setup) (l : List ℤ) where
 -- The table that the code makes has the image's ids.
 pub ids-held : (t : T.Table) → T.ids_differ (table_of (table_from t)) ≡ T.ids_differ t
 ids-held = Any.ids-held slot_of slot_from (λ s. refl)
+
+-- What a turn of each loop shows, and its end: cited by name at the loops of `src`.
+pub ruleset turns = (good-next, good_end)
+
+pub ruleset fills = (filled_start, filled_next, filled_end)
+
+pub ruleset tests = (filled_rest, other_length, image-records, ids-held)

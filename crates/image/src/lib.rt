@@ -25,55 +25,42 @@ fn slot_of(r: panel::Row) -> panel::Slot
 fn row_ok(setup: panel::Setup, r: panel::Row) -> bool
     ensures { result ≡ good_slot (fields_of setup) (row_of r) }
 {
-    if !common::id_ok(r.first) {
-        return false;
-    }
-    panel::numbers_ok(setup, r)
+    common::id_ok(r.first) && panel::numbers_ok(setup, r)
 }
 
+#[tactic(auto, using(crate::proofs::Images::turns))]
 fn rows_ok(setup: panel::Setup, image: &[i32]) -> bool
     requires { (setup.n ≤ records) × (length image.now ≡ per_slot * setup.n) }
     ensures { result ≡ good_records (fields_of setup) setup.n (rows_from per_slot setup.n image.now 0) }
 {
-    let n = setup.n;
-    let mut i: usize = 0;
-    while i < n {
+    for i in 0..setup.n {
         if !row_ok(setup, panel::row_at(image, panel::PER_SLOT * i)) {
             return false;
         }
-        i += 1;
     }
     true
 }
 
 // The image's slots, and unused records from n up.
+#[tactic(auto, using(crate::proofs::Images::fills))]
 pub fn image_table(setup: panel::Setup, image: &[i32]) -> [panel::Slot; panel::RECORDS]
     requires { (setup.n ≤ records) × (length image.now ≡ per_slot * setup.n) }
     ensures { result ≡ table_from (image_table (panel_seen setup) image.now) }
 {
-    let n = setup.n;
     let mut t = panel::unused_table();
-    let mut i: usize = 0;
-    while i < n {
-        let s = slot_of(panel::row_at(image, panel::PER_SLOT * i));
-        t[i] = s;
-        i += 1;
+    for i in 0..setup.n {
+        t[i] = slot_of(panel::row_at(image, panel::PER_SLOT * i));
     }
     t
 }
 
+#[tactic(auto, using(crate::proofs::Images::tests))]
 pub fn image_ok(setup: panel::Setup, image: &[i32], current: common::SlotNumber) -> bool
     requires { setup.n ≤ records }
     ensures { result ≡ image_good (panel_seen setup) image.now current.0 }
 {
-    if image.len() != panel::PER_SLOT * setup.n {
-        return false;
-    }
-    if !rows_ok(setup, image) {
-        return false;
-    }
-    if !panel::ids_differ(setup.n, image_table(setup, image)) {
-        return false;
-    }
-    current.0 < setup.n
+    image.len() == panel::PER_SLOT * setup.n
+        && rows_ok(setup, image)
+        && panel::ids_differ(setup.n, image_table(setup, image))
+        && current.0 < setup.n
 }

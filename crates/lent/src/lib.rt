@@ -22,10 +22,7 @@ pub fn put_word(b: &mut [u8], at: usize, v: u32)
     requires { at + word_size ≤ length b.old }
     ensures { b.new ≡ lay at (low_bytes 4 v) b.old }
 {
-    b[at] = (v % 256) as u8;
-    b[at + 1] = (v / 256 % 256) as u8;
-    b[at + 2] = (v / 256 / 256 % 256) as u8;
-    b[at + 3] = (v / 256 / 256 / 256 % 256) as u8;
+    b[at..at + 4].copy_from_slice(&v.to_le_bytes());
 }
 
 pub fn slot_at(b: &[u8], at: usize) -> Slot
@@ -46,8 +43,7 @@ pub fn put_slot(b: &mut [u8], at: usize, s: Slot)
     requires { at + slot_size ≤ length b.old }
     ensures { b.new ≡ lay at (slot_bytes s) b.old }
 {
-    let id = s.id;
-    put_word(b, at, records::bits_of(id.0));
+    put_word(b, at, records::bits_of(s.id.0));
     put_word(b, at + 4, s.x);
     put_word(b, at + 8, s.y);
     put_word(b, at + 12, s.pressure);
@@ -86,10 +82,8 @@ pub fn table_at(b: &[u8], at: usize) -> [Slot; RECORDS]
     ensures { result ≡ slots_from records b.now at }
 {
     let mut t = panel::zero_table();
-    let mut i: usize = 0;
-    while i < RECORDS {
+    for i in 0..RECORDS {
         t[i] = slot_at(b, at + SLOT * i);
-        i += 1;
     }
     t
 }
@@ -98,10 +92,8 @@ pub fn put_table(b: &mut [u8], at: usize, t: [Slot; RECORDS])
     requires { at + table_size ≤ length b.old }
     ensures { b.new ≡ lay at (table_bytes t) b.old }
 {
-    let mut i: usize = 0;
-    while i < RECORDS {
+    for i in 0..RECORDS {
         put_slot(b, at + SLOT * i, t[i]);
-        i += 1;
     }
 }
 
@@ -111,10 +103,6 @@ pub fn copy_of(t: &[u8]) -> [u8; TABLE]
     ensures { result ≡ t.now }
 {
     let mut r = [0; TABLE];
-    let mut i: usize = 0;
-    while i < TABLE {
-        r[i] = t[i];
-        i += 1;
-    }
+    r.copy_from_slice(t);
     r
 }

@@ -57,18 +57,6 @@ fn number_of(verdict: Verdict) -> u32
     verdict.number() as u32
 }
 
-// All bytes of b are those of s.
-fn copy(b: &mut [u8], s: &[u8])
-    requires { length b.old ≡ length s.now }
-    ensures { b.new ≡ s.now }
-{
-    let mut i: usize = 0;
-    while i < s.len() {
-        b[i] = s[i];
-        i += 1;
-    }
-}
-
 // One block of 1 to 62 events in the lent block: 2 where that has not its 512 bytes, then the library's 4 and 6.
 pub fn make_block(number: u32, events: &[u8], block: &mut [u8]) -> u32
     ensures { BlockMade number events.now block.old result block.new }
@@ -77,11 +65,9 @@ pub fn make_block(number: u32, events: &[u8], block: &mut [u8]) -> u32
         return number_of(Verdict::State);
     }
     let a = recorder::make_block(number, events);
-    let verdict = a.verdict;
-    let made = a.block;
-    let refusal = number_of(verdict);
+    let refusal = number_of(a.verdict);
     if refusal == 0 {
-        copy(block, &made);
+        block.copy_from_slice(&a.block);
     }
     refusal
 }
@@ -97,11 +83,8 @@ pub fn lay_blocks(
     ensures { BlocksLaid number events.now at buf.old result answer.new buf.new }
 {
     let a = recorder::lay_blocks(number, events, buf, at);
-    let verdict = a.verdict;
-    let refusal = number_of(verdict);
-    let next = a.next as u64;
-    *answer = [a.blocks as u64, next, a.need as u64];
-    refusal
+    *answer = [a.blocks as u64, a.next as u64, a.need as u64];
+    number_of(a.verdict)
 }
 
 // Document 02's order of the names, and 0 for events.
@@ -109,7 +92,7 @@ fn name_of(a: BlockRead) -> u32
     ensures { result ≡ name_of a }
 {
     match a {
-        BlockRead::Events { at, count } => 0,
+        BlockRead::Events { .. } => 0,
         BlockRead::WrongCheck => 1,
         BlockRead::WrongNumber => 2,
         BlockRead::CountOver => 3,
@@ -122,10 +105,7 @@ fn read_told(a: BlockRead) -> [u64; FOUND]
 {
     match a {
         BlockRead::Events { at, count } => [at as u64, count as u64],
-        BlockRead::WrongCheck => [0, 0],
-        BlockRead::WrongNumber => [0, 0],
-        BlockRead::CountOver => [0, 0],
-        BlockRead::NotZero => [0, 0],
+        _ => [0, 0],
     }
 }
 
@@ -141,22 +121,17 @@ pub fn read_block(block: &[u8], number: u32, answer: &mut [u64; FOUND]) -> u32
 fn word_fits(v: i32) -> bool
     ensures { result ≡ fits_in word_values v }
 {
-    if v < LEAST_WORD {
-        return false;
-    }
-    v <= MOST_SIGNED_WORD
+    (LEAST_WORD..=MOST_SIGNED_WORD).contains(&v)
 }
 
 fn byte_fits(v: i32) -> bool
     ensures { result ≡ fits_in byte_values v }
 {
-    if v < LEAST_BYTE {
-        return false;
-    }
-    v <= MOST_SIGNED_BYTE
+    (LEAST_BYTE..=MOST_SIGNED_BYTE).contains(&v)
 }
 
 // Whether each number is one that the report's type holds.
+#[tactic(auto, unfolding(crate::specs::Sticks::typed))]
 fn typed(l: &[i32; REPORT]) -> bool
     ensures { result ≡ typed_in l.now }
 {
@@ -210,19 +185,13 @@ fn report_of(l: &[i32; REPORT]) -> Report
     requires { typed_in l.now ≡ true }
     ensures { seen result ≡ report_in l.now }
 {
-    let x = signed_word(l[0]);
-    let y = signed_word(l[1]);
-    let throttle = plain_byte(l[2]);
-    let buttons = plain_word(l[3]);
-    let hat = plain_byte(l[4]);
-    let rudder = signed_byte(l[5]);
     Report {
-        x,
-        y,
-        throttle,
-        buttons,
-        hat,
-        rudder,
+        x: signed_word(l[0]),
+        y: signed_word(l[1]),
+        throttle: plain_byte(l[2]),
+        buttons: plain_word(l[3]),
+        hat: plain_byte(l[4]),
+        rudder: signed_byte(l[5]),
     }
 }
 
@@ -240,45 +209,28 @@ pub fn force_write(
         return number_of(Verdict::Value);
     }
     let a = force::write(report_of(report), buf, at);
-    let verdict = a.verdict;
     *answer = [a.need as u64];
-    number_of(verdict)
-}
-
-// By themselves, since a parameter is known to fit its type.
-fn wide_word(v: i16) -> i32
-    ensures { result ≡ v }
-{
-    v as i32
-}
-
-fn wide_byte(v: i8) -> i32
-    ensures { result ≡ v }
-{
-    v as i32
+    number_of(a.verdict)
 }
 
 fn report_told(r: Report) -> [i32; TOLD]
     ensures { result ≡ force_told (a_report (seen r)) }
 {
-    let x = wide_word(r.x);
-    let y = wide_word(r.y);
-    let rudder = wide_byte(r.rudder);
     [
         A_REPORT,
-        x,
-        y,
-        r.throttle as i32,
-        r.buttons as i32,
-        r.hat as i32,
-        rudder,
+        i32::from(r.x),
+        i32::from(r.y),
+        i32::from(r.throttle),
+        i32::from(r.buttons),
+        i32::from(r.hat),
+        i32::from(r.rudder),
     ]
 }
 
 fn few(name: u8, a: u8, b: u8) -> [i32; TOLD]
     ensures { result ≡ short name a b }
 {
-    [name as i32, a as i32, b as i32, 0, 0, 0, 0]
+    [i32::from(name), i32::from(a), i32::from(b), 0, 0, 0, 0]
 }
 
 fn force_told(a: Answer) -> [i32; TOLD]
@@ -299,7 +251,6 @@ pub fn force_read(bytes: &[u8], at: usize, answer: &mut [i32; TOLD]) -> usize
     ensures { ForceRead bytes.now at result answer.new }
 {
     let a = force::read(bytes, at);
-    let found = a.answer;
-    *answer = force_told(found);
+    *answer = force_told(a.answer);
     a.next
 }

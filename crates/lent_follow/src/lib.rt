@@ -35,10 +35,8 @@ fn take_back(t: &mut [u8])
     requires { length t.old ≡ both_size }
     ensures { Holds (shown_in t.old) (shown_in t.old) t.new }
 {
-    let mut i: usize = 0;
-    while i < TABLE {
+    for i in 0..TABLE {
         t[PENDING + i] = t[i];
-        i += 1;
     }
 }
 
@@ -46,10 +44,8 @@ fn show_all(t: &mut [u8])
     requires { length t.old ≡ both_size }
     ensures { Holds (pending_in t.old) (pending_in t.old) t.new }
 {
-    let mut i: usize = 0;
-    while i < TABLE {
+    for i in 0..TABLE {
         t[i] = t[PENDING + i];
-        i += 1;
     }
 }
 
@@ -81,20 +77,15 @@ fn ids_apart(n: usize, t: &[u8]) -> bool
 {
     let mut met: u64 = 0;
     let mut apart = true;
-    let mut k: usize = 0;
-    while k < n {
+    for k in 0..n {
         let id = records::signed_of(records::word_at(t, PENDING + SLOT * k));
-        k += 1;
         if !common::same(id, -1) {
             let bit = 1u64 << (common::nat_of(id) % 64);
             apart = apart & (met & bit == 0);
             met = met | bit;
         }
     }
-    if apart {
-        return true;
-    }
-    panel::ids_differ(n, lent::table_at(t, PENDING))
+    apart || panel::ids_differ(n, lent::table_at(t, PENDING))
 }
 
 // The rest of a run, from record k on, once the reader lost track.
@@ -110,19 +101,13 @@ fn lost(
     ensures { with_tables result t.new ≡ lost_at (shown_in t.old) current (mode_of m) (counts_of before) (left_from bytes.now k) }
 {
     take_back(t);
-    let count = bytes.len() / 8;
     let mode = common::last_mode(m, bytes, k);
-    let first = before.first;
     EndedIn {
         current,
         mode,
         counts: Counts {
-            shown: before.shown,
-            types: before.types,
-            codes: before.codes,
-            bad: before.bad,
-            ignored: count - k,
-            first,
+            ignored: bytes.len() / 8 - k,
+            ..before
         },
     }
 }
@@ -154,6 +139,7 @@ pub fn follow(setup: Setup, t: &mut [u8], current0: SlotNumber, bytes: &[u8]) ->
     let mut from = current;
     let mut opened: usize = 2;
     let mut k: usize = 0;
+    // Each arm ends its turn: behind the match its proof would no longer have what the arm knows.
     while k < count {
         let act = acts::act_of(records::word_at(bytes, 8 * k));
         let value = records::word_at(bytes, 8 * k + 4);

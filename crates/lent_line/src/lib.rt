@@ -26,10 +26,7 @@ pub const SIZE: usize = 1576;
 fn formed(b: &[u8]) -> bool
     ensures { result ≡ is_formed b.now }
 {
-    if b.len() != SIZE {
-        return false;
-    }
-    lent_reader::begun(b, KIND) & (b[SPARE_AT] == 0)
+    b.len() == SIZE && lent_reader::begun(b, KIND) && b[SPARE_AT] == 0
 }
 
 fn left_in(b: &[u8]) -> [u8; PLACES]
@@ -51,13 +48,10 @@ fn unpacked(b: &[u8]) -> LineState
     requires { length b.now ≡ line_size }
     ensures { result ≡ state_in b.now }
 {
-    let left = left_in(b);
-    let count = b[HELD_AT] as usize;
-    let reader = lent_reader::unpacked(b);
     LineState {
-        left,
-        count,
-        reader,
+        left: left_in(b),
+        count: b[HELD_AT] as usize,
+        reader: lent_reader::unpacked(b),
     }
 }
 
@@ -79,10 +73,8 @@ fn put_state(b: &mut [u8], s: LineState)
     requires { (length b.old ≡ line_size) × (s.count < 256) × (s.reader.setup.n < 2 ^ 32) × (s.reader.current.0 < 2 ^ 32) }
     ensures { b.new ≡ lay left_at (tail_bytes s.left) (lay 0 (head_bytes line_kind s.reader.mode s.count ++ body_bytes s.reader) b.old) }
 {
-    let left = s.left;
-    let reader = s.reader;
-    lent_reader::put_state(b, KIND, s.count as u8, reader);
-    put_left(b, left);
+    lent_reader::put_state(b, KIND, s.count as u8, s.reader);
+    put_left(b, s.left);
 }
 
 // The fresh state of a panel, for any six numbers: refusals 1, then 2 where the bytes are not as many as a state has.
@@ -97,16 +89,14 @@ pub fn line_fresh(state: &mut [u8], setup: &[u32; SETUP_NUMBERS]) -> u32
         setup[4],
         setup[5],
     );
-    let verdict = made.verdict;
-    let number = verdict.number() as u32;
+    let number = made.verdict.number() as u32;
     if number != 0 {
         return number;
     }
     if state.len() != SIZE {
         return REFUSED;
     }
-    let next = made.state;
-    put_state(state, next);
+    put_state(state, made.state);
     0
 }
 
@@ -119,15 +109,12 @@ pub fn take(state: &mut [u8], piece: &[u8], answer: &mut [u64; RUN_NUMBERS]) -> 
         return REFUSED;
     }
     let taken = pieces::take(unpacked(state), piece);
-    let counts = taken.counts;
-    lent_reader::put_counts(answer, counts);
-    let verdict = taken.verdict;
-    let number = verdict.number() as u32;
+    lent_reader::put_counts(answer, taken.counts);
+    let number = taken.verdict.number() as u32;
     if number != 0 {
         return number;
     }
-    let next = taken.state;
-    put_state(state, next);
+    put_state(state, taken.state);
     0
 }
 
@@ -139,13 +126,11 @@ pub fn line_load(state: &mut [u8], image: &[i32], current: usize) -> u32
         return REFUSED;
     }
     let loaded = pieces::load(unpacked(state), image, SlotNumber(current));
-    let verdict = loaded.verdict;
-    let number = verdict.number() as u32;
+    let number = loaded.verdict.number() as u32;
     if number != 0 {
         return number;
     }
-    let next = loaded.state;
-    put_state(state, next);
+    put_state(state, loaded.state);
     0
 }
 

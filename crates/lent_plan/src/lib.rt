@@ -43,13 +43,8 @@ fn ids_of(n: usize, t: &[u8]) -> [i32; TAKEN]
     ensures { take n result ≡ ids (table_of (take n (table_in t.now))) }
 {
     let mut l = [0; TAKEN];
-    let mut i: usize = 0;
-    while i < n {
-        let s = lent_table::slot_of(t, i);
-        let q = s.id;
-        let v = q.0;
-        l[i] = v;
-        i += 1;
+    for i in 0..n {
+        l[i] = lent_table::slot_of(t, i).id.0;
     }
     l
 }
@@ -101,6 +96,7 @@ fn give_ids(
     let mut k = counter;
     let mut s = from.slot;
     let mut changes = from.changes;
+    // A step goes to the next loud row.
     while s < n {
         let r = panel::row_at(frame, PER_SLOT * s);
         let was = lent_table::slot_of(t, s);
@@ -111,8 +107,7 @@ fn give_ids(
             let j = plan::choose(&taken[..m], held, k);
             let v = plan::id_of(j);
             changes = make(t, s, was, plan::contact(v, r), changes);
-            let q = v.0;
-            taken[m] = q;
+            taken[m] = v.0;
             held = held | plan::mark_of(j);
             m += 1;
             k = plan::after(j);
@@ -145,6 +140,7 @@ pub fn plan_frame(
     let n = setup.n;
     let mut changes = Changed::none();
     let mut s = from;
+    // A step goes to the next loud row.
     while s < n {
         let r = panel::row_at(frame, PER_SLOT * s);
         let was = lent_table::slot_of(t, s);

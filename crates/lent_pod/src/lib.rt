@@ -89,25 +89,11 @@ fn number_of(verdict: Verdict) -> u32
 }
 
 // Whether the bytes have the form of a pod's state.
+#[tactic(auto, unfolding(crate::specs::Pods::formed))]
 fn formed(b: &[u8]) -> bool
     ensures { result ≡ formed_in b.now }
 {
-    if b.len() != POD {
-        return false;
-    }
-    if b[0] != VERSION {
-        return false;
-    }
-    if b[1] != KIND {
-        return false;
-    }
-    if 1 < b[2] {
-        return false;
-    }
-    if b[10] != 0 {
-        return false;
-    }
-    b[11] == 0
+    b.len() == POD && b[0] == VERSION && b[1] == KIND && b[2] <= 1 && b[10] == 0 && b[11] == 0
 }
 
 fn unpacked(b: &[u8]) -> PodState
@@ -124,30 +110,28 @@ fn unpacked(b: &[u8]) -> PodState
 fn bit_of(b: bool) -> u8
     ensures { result ≡ bit b }
 {
-    if b {
-        return 1;
-    }
-    0
+    u8::from(b)
 }
 
-// Twelve stores: the bytes before count for nothing.
+// All twelve bytes are written: those before count for nothing.
 fn pack(b: &mut [u8], s: PodState)
     requires { (length b.old ≡ pod_size) × (s.count < 256) }
     ensures { b.new ≡ packed s }
 {
-    let bytes = s.bytes;
-    b[0] = VERSION;
-    b[1] = KIND;
-    b[2] = bit_of(s.waits);
-    b[3] = s.count as u8;
-    b[4] = bytes[0];
-    b[5] = bytes[1];
-    b[6] = bytes[2];
-    b[7] = bytes[3];
-    b[8] = bytes[4];
-    b[9] = bytes[5];
-    b[10] = 0;
-    b[11] = 0;
+    b.copy_from_slice(&[
+        VERSION,
+        KIND,
+        bit_of(s.waits),
+        s.count as u8,
+        s.bytes[0],
+        s.bytes[1],
+        s.bytes[2],
+        s.bytes[3],
+        s.bytes[4],
+        s.bytes[5],
+        0,
+        0,
+    ]);
 }
 
 // A fresh pod's state in the bytes, which waits; 2 where they are not as many as a state has.
@@ -165,24 +149,29 @@ pub fn pod_fresh(state: &mut [u8]) -> u32
 fn few(name: u16, a: u16, b: u16, c: u16, d: u16) -> [i32; TOLD]
     ensures { result ≡ pos name ∷ pos a ∷ pos b ∷ pos c ∷ pos d ∷ pos 0 ∷ pos 0 ∷ [] }
 {
-    [name as i32, a as i32, b as i32, c as i32, d as i32, 0, 0]
-}
-
-// By itself, since a parameter is known to fit its type.
-fn wide(v: i8) -> i32
-    ensures { result ≡ v }
-{
-    v as i32
+    [
+        i32::from(name),
+        i32::from(a),
+        i32::from(b),
+        i32::from(c),
+        i32::from(d),
+        0,
+        0,
+    ]
 }
 
 fn relative_told(r: Relative) -> [i32; TOLD]
     ensures { result ≡ report_told (relative r.left r.right r.dx r.dy) }
 {
-    let dx = wide(r.dx);
-    let dy = wide(r.dy);
-    let left = bit_of(r.left);
-    let right = bit_of(r.right);
-    [RELATIVE, left as i32, right as i32, dx, dy, 0, 0]
+    [
+        RELATIVE,
+        i32::from(bit_of(r.left)),
+        i32::from(bit_of(r.right)),
+        i32::from(r.dx),
+        i32::from(r.dy),
+        0,
+        0,
+    ]
 }
 
 fn clock_told(c: Clock) -> [i32; TOLD]
@@ -190,34 +179,37 @@ fn clock_told(c: Clock) -> [i32; TOLD]
 {
     [
         TIME_OF_DAY,
-        c.year as i32,
-        c.month as i32,
-        c.day as i32,
-        c.hour as i32,
-        c.minute as i32,
-        c.second as i32,
+        i32::from(c.year),
+        i32::from(c.month),
+        i32::from(c.day),
+        i32::from(c.hour),
+        i32::from(c.minute),
+        i32::from(c.second),
     ]
 }
 
 fn both_told(s: Stick, t: Stick) -> [i32; TOLD]
     ensures { result ≡ report_told (both_sticks s.trigger s.position t.trigger t.position) }
 {
-    let first = bit_of(s.trigger) as u16;
-    let second = bit_of(t.trigger) as u16;
     few(
         BOTH_STICKS,
-        first,
-        s.position as u16,
-        second,
-        t.position as u16,
+        u16::from(bit_of(s.trigger)),
+        u16::from(s.position),
+        u16::from(bit_of(t.trigger)),
+        u16::from(t.position),
     )
 }
 
 fn stick_told(which: u8, s: Stick) -> [i32; TOLD]
     ensures { result ≡ report_told (one_stick which s.trigger s.position) }
 {
-    let trigger = bit_of(s.trigger) as u16;
-    few(ONE_STICK, which as u16, trigger, s.position as u16, 0)
+    few(
+        ONE_STICK,
+        u16::from(which),
+        u16::from(bit_of(s.trigger)),
+        u16::from(s.position),
+        0,
+    )
 }
 
 // The numbers of an answer; zeros of a refusal.
@@ -226,23 +218,13 @@ fn told_of(report: Report) -> [i32; TOLD]
 {
     match report {
         Report::More => few(MORE, 0, 0, 0, 0),
-        Report::KeyDown(r) => few(KEY_DOWN, r.key as u16, 0, 0, 0),
-        Report::KeyUp(r) => few(KEY_UP, r.key as u16, 0, 0, 0),
-        Report::Absolute(r) => few(ABSOLUTE, r.flags as u16, r.x, r.y, 0),
+        Report::KeyDown(r) => few(KEY_DOWN, u16::from(r.key), 0, 0, 0),
+        Report::KeyUp(r) => few(KEY_UP, u16::from(r.key), 0, 0, 0),
+        Report::Absolute(r) => few(ABSOLUTE, u16::from(r.flags), r.x, r.y, 0),
         Report::Relative(r) => relative_told(r),
-        Report::TimeOfDay(r) => {
-            let clock = r.clock;
-            clock_told(clock)
-        }
-        Report::BothSticks(r) => {
-            let s = r.stick0;
-            let t = r.stick1;
-            both_told(s, t)
-        }
-        Report::OneStick(r) => {
-            let s = r.stick;
-            stick_told(r.which, s)
-        }
+        Report::TimeOfDay(r) => clock_told(r.clock),
+        Report::BothSticks(r) => both_told(r.stick0, r.stick1),
+        Report::OneStick(r) => stick_told(r.which, r.stick),
         Report::SelfTestPassed(_) => few(SELF_TEST_PASSED, 0, 0, 0, 0),
         Report::BadByte(_) => few(BAD_BYTE, 0, 0, 0, 0),
         Report::BadReport => few(BAD_REPORT, 0, 0, 0, 0),
@@ -254,18 +236,8 @@ fn refusal_of(report: Report) -> u32
     ensures { result ≡ refusal_of report }
 {
     match report {
-        Report::More => 0,
-        Report::KeyDown(_) => 0,
-        Report::KeyUp(_) => 0,
-        Report::Absolute(_) => 0,
-        Report::Relative(_) => 0,
-        Report::TimeOfDay(_) => 0,
-        Report::BothSticks(_) => 0,
-        Report::OneStick(_) => 0,
-        Report::SelfTestPassed(_) => 0,
-        Report::BadByte(_) => 0,
-        Report::BadReport => 0,
         Report::Refused => 2,
+        _ => 0,
     }
 }
 
@@ -278,12 +250,10 @@ pub fn pod_step(state: &mut [u8], byte: u8, answer: &mut [i32; TOLD]) -> u32
         return number_of(Verdict::State);
     }
     let a = pod::step(unpacked(state), byte);
-    let next = a.state;
-    let report = a.report;
-    *answer = told_of(report);
-    let refusal = refusal_of(report);
+    *answer = told_of(a.report);
+    let refusal = refusal_of(a.report);
     if refusal == 0 {
-        pack(state, next);
+        pack(state, a.state);
     }
     refusal
 }
@@ -291,19 +261,13 @@ pub fn pod_step(state: &mut [u8], byte: u8, answer: &mut [i32; TOLD]) -> u32
 fn both_up_to(x: u32, y: u32, top: u32) -> bool
     ensures { result ≡ both_up_to top x y }
 {
-    if top < x {
-        return false;
-    }
-    y <= top
+    x <= top && y <= top
 }
 
 fn three_bytes(a: u32, b: u32, c: u32) -> bool
     ensures { result ≡ three_bytes a b c }
 {
-    if MOST_BYTE < a {
-        return false;
-    }
-    both_up_to(b, c, MOST_BYTE)
+    a <= MOST_BYTE && both_up_to(b, c, MOST_BYTE)
 }
 
 fn buttons_of(action: u32) -> Named
@@ -312,8 +276,9 @@ fn buttons_of(action: u32) -> Named
     if MOST_BYTE < action {
         return Named::Nothing;
     }
-    let action = action as u8;
-    Named::Command(Command::ButtonAction(ButtonAction { action }))
+    Named::Command(Command::ButtonAction(ButtonAction {
+        action: action as u8,
+    }))
 }
 
 fn absolute_of(x: u32, y: u32) -> Named
@@ -322,9 +287,10 @@ fn absolute_of(x: u32, y: u32) -> Named
     if !both_up_to(x, y, MOST_WORD) {
         return Named::Nothing;
     }
-    let x = x as u16;
-    let y = y as u16;
-    Named::Command(Command::AbsoluteMode(AbsoluteMode { x, y }))
+    Named::Command(Command::AbsoluteMode(AbsoluteMode {
+        x: x as u16,
+        y: y as u16,
+    }))
 }
 
 fn threshold_of(x: u32, y: u32) -> Named
@@ -333,9 +299,10 @@ fn threshold_of(x: u32, y: u32) -> Named
     if !both_up_to(x, y, MOST_BYTE) {
         return Named::Nothing;
     }
-    let x = x as u8;
-    let y = y as u8;
-    Named::Command(Command::Threshold(Threshold { x, y }))
+    Named::Command(Command::Threshold(Threshold {
+        x: x as u8,
+        y: y as u8,
+    }))
 }
 
 fn scale_of(x: u32, y: u32) -> Named
@@ -344,9 +311,10 @@ fn scale_of(x: u32, y: u32) -> Named
     if !both_up_to(x, y, MOST_BYTE) {
         return Named::Nothing;
     }
-    let x = x as u8;
-    let y = y as u8;
-    Named::Command(Command::Scale(Scale { x, y }))
+    Named::Command(Command::Scale(Scale {
+        x: x as u8,
+        y: y as u8,
+    }))
 }
 
 fn load_of(x: u32, y: u32) -> Named
@@ -355,18 +323,16 @@ fn load_of(x: u32, y: u32) -> Named
     if !both_up_to(x, y, MOST_WORD) {
         return Named::Nothing;
     }
-    let x = x as u16;
-    let y = y as u16;
-    Named::Command(Command::LoadPosition(LoadPosition { x, y }))
+    Named::Command(Command::LoadPosition(LoadPosition {
+        x: x as u16,
+        y: y as u16,
+    }))
 }
 
 fn clock_of(ns: &[u32; ORDER]) -> Named
     ensures { result ≡ held_named (typed (set_clock (clock_of ns.now))) (set_clock (clock_of ns.now)) }
 {
-    if !three_bytes(ns[1], ns[2], ns[3]) {
-        return Named::Nothing;
-    }
-    if !three_bytes(ns[4], ns[5], ns[6]) {
+    if !three_bytes(ns[1], ns[2], ns[3]) || !three_bytes(ns[4], ns[5], ns[6]) {
         return Named::Nothing;
     }
     let clock = Clock {
@@ -381,11 +347,11 @@ fn clock_of(ns: &[u32; ORDER]) -> Named
 }
 
 // docs/DRIVE.md numbers the commands. Numbers past a command's own are not looked at.
+#[tactic(auto, unfolding(crate::specs::Orders::command_by))]
 fn what_of(ns: &[u32; ORDER]) -> Named
     ensures { result ≡ held_named (names_in ns.now) (command_in ns.now) }
 {
-    let number = ns[0];
-    match number {
+    match ns[0] {
         0 => Named::Command(Command::Reset(Reset {})),
         1 => buttons_of(ns[1]),
         2 => Named::Command(Command::RelativeMode(RelativeMode {})),
@@ -413,12 +379,10 @@ fn write_packed(
     ensures { Asked s command at b.old buf.old result b.new answer.new buf.new }
 {
     let a = commands::write(s, command, buf, at);
-    let verdict = a.verdict;
-    let next = a.state;
     *answer = [a.need as u64];
-    let refusal = number_of(verdict);
+    let refusal = number_of(a.verdict);
     if refusal == 0 {
-        pack(b, next);
+        pack(b, a.state);
     }
     refusal
 }
@@ -442,8 +406,7 @@ pub fn command_write(
     if !pod::well_formed(s) {
         return number_of(Verdict::State);
     }
-    let what = what_of(command);
-    match what {
+    match what_of(command) {
         Named::Command(c) => write_packed(state, s, c, buf, at, answer),
         Named::Nothing => number_of(Verdict::Command),
     }
@@ -453,7 +416,7 @@ pub fn command_write(
 fn two_told(number: u32, x: u16, y: u16) -> [u32; ORDER_TOLD]
     ensures { result ≡ 1 ∷ number ∷ x ∷ y ∷ 0 ∷ 0 ∷ 0 ∷ 0 ∷ [] }
 {
-    [A_COMMAND, number, x as u32, y as u32, 0, 0, 0, 0]
+    [A_COMMAND, number, u32::from(x), u32::from(y), 0, 0, 0, 0]
 }
 
 fn six_told(c: Clock) -> [u32; ORDER_TOLD]
@@ -462,12 +425,12 @@ fn six_told(c: Clock) -> [u32; ORDER_TOLD]
     [
         A_COMMAND,
         8,
-        c.year as u32,
-        c.month as u32,
-        c.day as u32,
-        c.hour as u32,
-        c.minute as u32,
-        c.second as u32,
+        u32::from(c.year),
+        u32::from(c.month),
+        u32::from(c.day),
+        u32::from(c.hour),
+        u32::from(c.minute),
+        u32::from(c.second),
     ]
 }
 
@@ -476,17 +439,14 @@ fn command_told(command: Command) -> [u32; ORDER_TOLD]
 {
     match command {
         Command::Reset(_) => two_told(0, 0, 0),
-        Command::ButtonAction(c) => two_told(1, c.action as u16, 0),
+        Command::ButtonAction(c) => two_told(1, u16::from(c.action), 0),
         Command::RelativeMode(_) => two_told(2, 0, 0),
         Command::AbsoluteMode(c) => two_told(3, c.x, c.y),
-        Command::Threshold(c) => two_told(4, c.x as u16, c.y as u16),
-        Command::Scale(c) => two_told(5, c.x as u16, c.y as u16),
+        Command::Threshold(c) => two_told(4, u16::from(c.x), u16::from(c.y)),
+        Command::Scale(c) => two_told(5, u16::from(c.x), u16::from(c.y)),
         Command::Interrogate(_) => two_told(6, 0, 0),
         Command::LoadPosition(c) => two_told(7, c.x, c.y),
-        Command::SetClock(c) => {
-            let clock = c.clock;
-            six_told(clock)
-        }
+        Command::SetClock(c) => six_told(c.clock),
         Command::AskClock(_) => two_told(9, 0, 0),
     }
 }
@@ -515,7 +475,6 @@ pub fn command_read(bytes: &[u8], at: usize, answer: &mut [u32; ORDER_TOLD]) -> 
     ensures { CommandRead bytes.now at result answer.new }
 {
     let a = commands::read(bytes, at);
-    let found = a.answer;
-    *answer = order_told(found);
+    *answer = order_told(a.answer);
     a.next
 }

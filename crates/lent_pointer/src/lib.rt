@@ -20,13 +20,8 @@ fn ids_in(n: usize, t: &[u8]) -> [i32; RECORDS]
     ensures { (result ≡ ids_in (table_of (table_in t.now))) × Idle n result }
 {
     let mut l = [TrackingId::UNUSED; RECORDS];
-    let mut i: usize = 0;
-    while i < n {
-        let s = lent_table::slot_of(t, i);
-        let q = s.id;
-        let v = q.0;
-        l[i] = v;
-        i += 1;
+    for i in 0..n {
+        l[i] = lent_table::slot_of(t, i).id.0;
     }
     l
 }

@@ -68,13 +68,11 @@ const RAGGED: u32 = 6;
 fn mode_of(v: u8) -> Mode
     ensures { result ≡ mode_of_byte v }
 {
-    if v == 0 {
-        return Mode::Following;
+    match v {
+        0 => Mode::Following,
+        1 => Mode::Dropped,
+        _ => Mode::Stale,
     }
-    if v == 1 {
-        return Mode::Dropped;
-    }
-    Mode::Stale
 }
 
 fn mode_byte(m: Mode) -> u8
@@ -92,16 +90,13 @@ pub fn begun(b: &[u8], kind: u8) -> bool
     requires { head_size ≤ length b.now }
     ensures { result ≡ begins kind b.now }
 {
-    (b[0] == VERSION) & ((b[1] == kind) & (b[MODE_AT] <= LAST_MODE))
+    b[0] == VERSION && b[1] == kind && b[MODE_AT] <= LAST_MODE
 }
 
 fn formed(b: &[u8]) -> bool
     ensures { result ≡ is_formed b.now }
 {
-    if b.len() != SIZE {
-        return false;
-    }
-    begun(b, KIND) & (b[SPARE_AT] == 0)
+    b.len() == SIZE && begun(b, KIND) && b[SPARE_AT] == 0
 }
 
 pub fn unpacked(b: &[u8]) -> ReaderState
@@ -138,14 +133,10 @@ fn put_body(b: &mut [u8], s: ReaderState)
     requires { (reader_size ≤ length b.old) × (s.setup.n < 2 ^ 32) × (s.current.0 < 2 ^ 32) }
     ensures { b.new ≡ lay head_size (body_bytes s) b.old }
 {
-    let current = s.current;
-    let setup = s.setup;
-    let shown = s.shown;
-    let pending = s.pending;
-    lent::put_word(b, CURRENT_AT, current.0 as u32);
-    lent::put_setup(b, SETUP_AT, setup);
-    lent::put_table(b, SHOWN_AT, shown);
-    lent::put_table(b, PENDING_AT, pending);
+    lent::put_word(b, CURRENT_AT, s.current.0 as u32);
+    lent::put_setup(b, SETUP_AT, s.setup);
+    lent::put_table(b, SHOWN_AT, s.shown);
+    lent::put_table(b, PENDING_AT, s.pending);
 }
 
 // A state of this kind, whose fourth byte is `more`, in the first bytes.
@@ -153,16 +144,14 @@ pub fn put_state(b: &mut [u8], kind: u8, more: u8, s: ReaderState)
     requires { (reader_size ≤ length b.old) × (s.setup.n < 2 ^ 32) × (s.current.0 < 2 ^ 32) }
     ensures { b.new ≡ lay 0 (head_bytes kind s.mode more ++ body_bytes s) b.old }
 {
-    let m = s.mode;
-    put_head(b, kind, m, more);
+    put_head(b, kind, s.mode, more);
     put_body(b, s);
 }
 
 pub fn put_counts(answer: &mut [u64; RUN_NUMBERS], c: Counts)
     ensures { answer.new ≡ counts_row (counts_of c) }
 {
-    let first = c.first;
-    match first {
+    match c.first {
         FirstSkipped::None => {
             *answer = [
                 c.shown as u64,
@@ -194,14 +183,15 @@ fn put_contact(answer: &mut [i32; ASK_NUMBERS], s: Slot)
     requires { (s.x < 2 ^ 31) × (s.y < 2 ^ 31) × (s.pressure < 2 ^ 31) × (s.major < 2 ^ 31) × (s.minor < 2 ^ 31) }
     ensures { answer.new ≡ asked_row (contact (slot_of s)) }
 {
-    let id = s.id;
-    let v = id.0;
-    let x = s.x as i32;
-    let y = s.y as i32;
-    let pressure = s.pressure as i32;
-    let major = s.major as i32;
-    let minor = s.minor as i32;
-    *answer = [CONTACT, v, x, y, pressure, major, minor];
+    *answer = [
+        CONTACT,
+        s.id.0,
+        s.x as i32,
+        s.y as i32,
+        s.pressure as i32,
+        s.major as i32,
+        s.minor as i32,
+    ];
 }
 
 // An answer in its places, and the number of a refusal.
@@ -252,16 +242,14 @@ pub fn reader_fresh(state: &mut [u8], setup: &[u32; SETUP_NUMBERS]) -> u32
         setup[4],
         setup[5],
     );
-    let verdict = made.verdict;
-    let number = verdict.number() as u32;
+    let number = made.verdict.number() as u32;
     if number != 0 {
         return number;
     }
     if state.len() != SIZE {
         return REFUSED;
     }
-    let next = made.state;
-    put_state(state, KIND, 0, next);
+    put_state(state, KIND, 0, made.state);
     0
 }
 
@@ -271,10 +259,8 @@ fn tables_same(b: &[u8]) -> bool
     ensures { result ≡ eq_table (table_of (state_in b.now).shown) (table_of (state_in b.now).pending) }
 {
     let mut same = true;
-    let mut i: usize = 0;
-    while i < TABLE {
+    for i in 0..TABLE {
         same = same & (b[SHOWN_AT + i] == b[PENDING_AT + i]);
-        i += 1;
     }
     same
 }
@@ -304,10 +290,7 @@ fn state_ok(b: &[u8]) -> bool
     ensures { result ≡ reader_good base (seen (state_in b.now)) }
 {
     let setup = lent::setup_at(b, SETUP_AT);
-    if !panel::setup_ok(setup) {
-        return false;
-    }
-    tables_ok(setup, b)
+    panel::setup_ok(setup) && tables_ok(setup, b)
 }
 
 // A run that begins following, on the tables where they lie.
@@ -318,12 +301,9 @@ fn run_following(b: &mut [u8], bytes: &[u8]) -> Counts
     let setup = lent::setup_at(b, SETUP_AT);
     let current = SlotNumber(wide(records::word_at(b, CURRENT_AT)));
     let e = lent_follow::follow(setup, &mut b[SHOWN_AT..SIZE], current, bytes);
-    let last = e.current;
-    lent::put_word(b, CURRENT_AT, last.0 as u32);
-    let mode = e.mode;
-    put_head(b, KIND, mode, 0);
-    let counts = e.counts;
-    counts
+    lent::put_word(b, CURRENT_AT, e.current.0 as u32);
+    put_head(b, KIND, e.mode, 0);
+    e.counts
 }
 
 // A run that begins without track: every record is ignored, and only the mode moves.
@@ -382,13 +362,11 @@ pub fn load(state: &mut [u8], image: &[i32], current: usize) -> u32
         return REFUSED;
     }
     let loaded = reader::load(unpacked(state), image, SlotNumber(current));
-    let verdict = loaded.verdict;
-    let number = verdict.number() as u32;
+    let number = loaded.verdict.number() as u32;
     if number != 0 {
         return number;
     }
-    let next = loaded.state;
-    put_state(state, KIND, 0, next);
+    put_state(state, KIND, 0, loaded.state);
     0
 }
 

@@ -41,8 +41,7 @@ fn rest_unused(n: usize, t: &[u8]) -> bool
     let mut pressure: u32 = 0;
     let mut major: u32 = 0;
     let mut minor: u32 = 0;
-    let mut i = n;
-    while i < RECORDS {
+    for i in n..RECORDS {
         let at = SLOT * i;
         ids = ids & records::word_at(t, at);
         x = x | records::word_at(t, at + 4);
@@ -50,7 +49,6 @@ fn rest_unused(n: usize, t: &[u8]) -> bool
         pressure = pressure | records::word_at(t, at + 12);
         major = major | records::word_at(t, at + 16);
         minor = minor | records::word_at(t, at + 20);
-        i += 1;
     }
     (ids == UNUSED) & ((x == 0) & ((y == 0) & ((pressure == 0) & ((major == 0) & (minor == 0)))))
 }
@@ -63,18 +61,15 @@ fn slots_judged(setup: Setup, t: &[u8]) -> Judged
     let n = setup.n;
     let mut held: u64 = 0;
     let mut apart = true;
-    let mut j: usize = 0;
-    while j < n {
+    for j in 0..n {
         let slot = lent::slot_at(t, SLOT * j);
-        j += 1;
         if !panel::slot_ok(setup, slot) {
             return Judged {
                 good: false,
                 apart: false,
             };
         }
-        let q = slot.id;
-        let id = q.0;
+        let id = slot.id.0;
         if !common::same(id, -1) {
             let mark = 1u64 << (common::nat_of(id) % 64);
             apart = apart & (held & mark == 0);
@@ -89,11 +84,7 @@ pub fn table_ok(setup: Setup, t: &[u8]) -> bool
     requires { (setup.n ≤ records) × (length t.now ≡ table_size) }
     ensures { result ≡ good_records (fields_of setup) setup.n (table_of (table_in t.now)) }
 {
-    if !rest_unused(setup.n, t) {
-        return false;
-    }
-    let told = slots_judged(setup, t);
-    told.good
+    rest_unused(setup.n, t) && slots_judged(setup, t).good
 }
 
 // Whether a table is as a state's should be: good slots with live ids that differ, and unused records past them. Only where two ids fall on one bit are they compared, and the table is then copied.
@@ -105,13 +96,7 @@ pub fn table_good(setup: Setup, t: &[u8]) -> bool
         return false;
     }
     let told = slots_judged(setup, t);
-    if !told.good {
-        return false;
-    }
-    if told.apart {
-        return true;
-    }
-    panel::ids_differ(setup.n, lent::table_at(t, 0))
+    told.good && (told.apart || panel::ids_differ(setup.n, lent::table_at(t, 0)))
 }
 
 // The first slot from `from` on whose row does not leave it as it is, or n. Most rows leave it so, and then nothing else is asked of them.
@@ -119,13 +104,11 @@ pub fn next_loud(n: usize, t: &[u8], frame: &[i32], from: usize) -> usize
     requires { (n ≤ records) × (length t.now ≡ table_size) × (length frame.now ≡ per_slot * n) × (from ≤ n) }
     ensures { NextLoud from n (table_in t.now) frame.now result }
 {
-    let mut s = from;
-    while s < n {
+    for s in from..n {
         let r = panel::row_at(frame, PER_SLOT * s);
         if !plan::quiet(lent::slot_at(t, SLOT * s), r) {
             return s;
         }
-        s += 1;
     }
     n
 }

@@ -67,25 +67,16 @@ const NO_ROOM: u32 = 5;
 
 // ---- what bytes hold
 
+#[tactic(auto, unfolding(crate::specs::Seen::formed))]
 fn formed(b: &[u8]) -> bool
     ensures { result ≡ formed_in b.now }
 {
-    if b.len() != SIZE {
-        return false;
-    }
-    if b[0] != VERSION {
-        return false;
-    }
-    if b[1] != KIND {
-        return false;
-    }
-    if 1 < b[OPTION] {
-        return false;
-    }
-    if b[ZERO] != 0 {
-        return false;
-    }
-    b[ZERO + 1] == 0
+    b.len() == SIZE
+        && b[0] == VERSION
+        && b[1] == KIND
+        && b[OPTION] <= 1
+        && b[ZERO] == 0
+        && b[ZERO + 1] == 0
 }
 
 // Two bytes as a number, the lower first.
@@ -112,11 +103,7 @@ fn ranks_of(b: &[u8]) -> [u8; RECORDS]
     ensures { result ≡ b.now }
 {
     let mut r = [0; RECORDS];
-    let mut i: usize = 0;
-    while i < RECORDS {
-        r[i] = b[i];
-        i += 1;
-    }
+    r.copy_from_slice(b);
     r
 }
 
@@ -165,10 +152,7 @@ fn unpacked(b: &[u8]) -> WriterState
 fn flag(on: bool) -> u8
     ensures { result ≡ flag_of on }
 {
-    if on {
-        return 1;
-    }
-    0
+    if on { 1 } else { 0 }
 }
 
 fn put_head(b: &mut [u8], on: bool, told: Pointer)
@@ -190,38 +174,28 @@ fn put_numbers(b: &mut [u8], s: WriterState)
     requires { (length b.old ≡ state_size) × (s.setup.n < 2 ^ 32) × (s.current.0 < 2 ^ 32) }
     ensures { b.new ≡ lay setup_at (number_bytes s) b.old }
 {
-    let setup = s.setup;
-    let current = s.current;
-    let told = s.told;
-    lent::put_setup(b, SETUP, setup);
-    lent::put_word(b, CURRENT, current.0 as u32);
+    lent::put_setup(b, SETUP, s.setup);
+    lent::put_word(b, CURRENT, s.current.0 as u32);
     lent::put_word(b, COUNTER, s.counter);
-    lent::put_word(b, X, told.x);
-    lent::put_word(b, Y, told.y);
+    lent::put_word(b, X, s.told.x);
+    lent::put_word(b, Y, s.told.y);
 }
 
 fn put_ranks(b: &mut [u8], ranks: [u8; RECORDS])
     requires { length b.old ≡ state_size }
     ensures { b.new ≡ lay ranks_at ranks b.old }
 {
-    let mut i: usize = 0;
-    while i < RECORDS {
-        b[RANKS + i] = ranks[i];
-        i += 1;
-    }
+    b[RANKS..SIZE].copy_from_slice(&ranks);
 }
 
 fn put_state(b: &mut [u8], s: WriterState)
     requires { (length b.old ≡ state_size) × (s.setup.n < 2 ^ 32) × (s.current.0 < 2 ^ 32) }
     ensures { b.new ≡ packed s }
 {
-    let told = s.told;
-    let table = s.table;
-    let ranks = s.ranks;
-    put_head(b, s.pointer, told);
+    put_head(b, s.pointer, s.told);
     put_numbers(b, s);
-    lent::put_table(b, TABLE, table);
-    put_ranks(b, ranks);
+    lent::put_table(b, TABLE, s.table);
+    put_ranks(b, s.ranks);
 }
 
 // ---- the way by value, by which no call goes now
@@ -231,14 +205,12 @@ fn settle(state: &mut [u8], w: Written, answer: &mut [u64; 3]) -> u32
     requires { (length state.old ≡ state_size) × Held w }
     ensures { Settles state.old w result state.new answer.new }
 {
-    let v = w.verdict;
-    let number = v.number();
+    let number = w.verdict.number();
     *answer = [w.count as u64, w.need as u64, w.changed as u64];
     if number != 0 {
         return number as u32;
     }
-    let s = w.state;
-    put_state(state, s);
+    put_state(state, w.state);
     ACCEPTED
 }
 
@@ -258,10 +230,8 @@ fn all_zero(ranks: &[u8]) -> bool
     ensures { result ≡ all_zeros records ranks.now }
 {
     let mut some = false;
-    let mut i: usize = 0;
-    while i < RECORDS {
+    for i in 0..RECORDS {
         some = some | (ranks[i] != 0);
-        i += 1;
     }
     !some
 }
@@ -310,10 +280,7 @@ fn judged(b: &[u8]) -> bool
 fn has_room(size: usize, at: usize, need: usize) -> bool
     ensures { result ≡ room_for need at size }
 {
-    if size < at {
-        return false;
-    }
-    need <= size - at
+    at <= size && need <= size - at
 }
 
 // The ranks, and what the display was told last.
@@ -321,9 +288,10 @@ fn last_of(b: &[u8]) -> Moved
     requires { length b.now ≡ state_size }
     ensures { result ≡ last_of (unpacked_in b.now) }
 {
-    let ranks = ranks_of(&b[RANKS..SIZE]);
-    let told = told_at(b);
-    Moved { ranks, told }
+    Moved {
+        ranks: ranks_of(&b[RANKS..SIZE]),
+        told: told_at(b),
+    }
 }
 
 // The same after a frame that makes the table `new`; with the option off nothing moves.
@@ -372,15 +340,11 @@ fn send_all(b: &mut [u8], at: usize, old: &[u8], new: &[u8], s: Telling) -> Slot
     requires { (s.current.0 < records) × (length old.now ≡ table_size) × (length new.now ≡ table_size) × (at + length (sent_bytes (table_in old.now) (table_in new.now) s) ≤ length b.old) }
     ensures { Sends at (table_in old.now) (table_in new.now) s b.old result.0 b.new }
 {
-    let moved = s.moved;
-    let told = s.told;
-    let tell = moved.told;
-    let current = s.current;
-    let start = send::send_touch(b, at, told, tell);
-    let sent = lent_send::send_slots(b, start, old, new, s.others, current);
-    send::send_end(b, sent.end, told, tell);
-    let last = sent.last;
-    last
+    let tell = s.moved.told;
+    let start = send::send_touch(b, at, s.told, tell);
+    let sent = lent_send::send_slots(b, start, old, new, s.others, s.current);
+    send::send_end(b, sent.end, s.told, tell);
+    sent.last
 }
 
 // The new table, current slot and counter in place of the old ones.
@@ -401,12 +365,10 @@ fn store_moved(b: &mut [u8], m: Moved)
     if b[OPTION] != 1 {
         return;
     }
-    let told = m.told;
-    let ranks = m.ranks;
-    put_head(b, true, told);
-    lent::put_word(b, X, told.x);
-    lent::put_word(b, Y, told.y);
-    put_ranks(b, ranks);
+    put_head(b, true, m.told);
+    lent::put_word(b, X, m.told.x);
+    lent::put_word(b, Y, m.told.y);
+    put_ranks(b, m.ranks);
 }
 
 // A frame whose first loud row is that of slot `from`.
@@ -438,10 +400,9 @@ fn send_frame(
     if events == 0 {
         return unsent(answer, ACCEPTED, 0);
     }
-    let moved = s.moved;
     let last = send_all(buf, at, &state[TABLE..RANKS], &new, s);
     store(state, &new, c.slots, last, p.counter);
-    store_moved(state, moved);
+    store_moved(state, s.moved);
     *answer = [events as u64, 0, c.slots as u64];
     ACCEPTED
 }
@@ -503,9 +464,7 @@ pub fn fresh(state: &mut [u8], setup: &[u32; 6], pointer: u32) -> u32
     if 1 < pointer {
         return STATE;
     }
-    let f = WriterState::fresh(u, pointer == 1);
-    let s = f.state;
-    put_state(state, s);
+    put_state(state, WriterState::fresh(u, pointer == 1).state);
     ACCEPTED
 }
 
@@ -544,8 +503,7 @@ pub fn write_anonymous(
     let setup = lent::setup_at(state, SETUP);
     let table = lent::table_at(state, TABLE);
     let f = anonymous::read_frame(setup, table, records);
-    let v = f.verdict;
-    let refusal = v.number();
+    let refusal = f.verdict.number();
     if refusal != 0 {
         return unsent(answer, refusal as u32, 0);
     }

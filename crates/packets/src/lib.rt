@@ -92,13 +92,13 @@ struct Walk {
 fn begun(x: Number, y: Number, pressure: Number) -> bool
     ensures { result ≡ not (is_blank (packet_by x y pressure)) }
 {
-    x.told | (y.told | pressure.told)
+    x.told | y.told | pressure.told
 }
 
 fn whole(x: Number, y: Number, pressure: Number) -> bool
     ensures { result ≡ is_whole (packet_by x y pressure) }
 {
-    x.told & (y.told & pressure.told)
+    x.told & y.told & pressure.told
 }
 
 fn value_of(n: Number) -> i32
@@ -119,20 +119,16 @@ fn closed(w: Walk) -> Walk
         bits: 0,
         told: false,
     };
-    let x = w.x;
-    let y = w.y;
-    let pressure = w.pressure;
     let mut n = Walk {
         x: none,
         y: none,
         pressure: none,
-        count: w.count,
         sound: w.sound & !w.ended,
-        ended: w.ended,
+        ..w
     };
-    if begun(x, y, pressure) {
+    if begun(w.x, w.y, w.pressure) {
         n.count = w.count + 1;
-        n.sound = n.sound & whole(x, y, pressure);
+        n.sound &= whole(w.x, w.y, w.pressure);
     }
     n
 }
@@ -142,35 +138,20 @@ fn heard(w: Walk, said: Said, value: u32) -> Walk
     requires { w.count < 4611686018427387904 }
     ensures { walk_of result ≡ walks (walk_of w) (said_by said (signed_of value)) }
 {
-    let mut n = w;
     let v = Number {
         bits: value,
         told: true,
     };
-    n.sound = w.sound & !w.ended;
+    let sound = w.sound & !w.ended;
+    let n = Walk { sound, ..w };
     match said {
         Said::Skipped => w,
-        Said::X => {
-            n.x = v;
-            n
-        }
-        Said::Y => {
-            n.y = v;
-            n
-        }
-        Said::Pressure => {
-            n.pressure = v;
-            n
-        }
+        Said::X => Walk { x: v, ..n },
+        Said::Y => Walk { y: v, ..n },
+        Said::Pressure => Walk { pressure: v, ..n },
         Said::Close => closed(w),
-        Said::Report => {
-            n.ended = true;
-            n
-        }
-        Said::Loss => {
-            n.sound = false;
-            n
-        }
+        Said::Report => Walk { ended: true, ..n },
+        Said::Loss => Walk { sound: false, ..n },
     }
 }
 
@@ -178,33 +159,19 @@ fn heard(w: Walk, said: Said, value: u32) -> Walk
 fn closes(w: Walk, said: Said) -> bool
     ensures { result ≡ closes_in (packet_in w) said }
 {
-    let x = w.x;
-    let y = w.y;
-    let pressure = w.pressure;
-    match said {
-        Said::Skipped => false,
-        Said::X => false,
-        Said::Y => false,
-        Said::Pressure => false,
-        Said::Close => begun(x, y, pressure),
-        Said::Report => false,
-        Said::Loss => false,
-    }
+    matches!(said, Said::Close) && begun(w.x, w.y, w.pressure)
 }
 
 fn finished(w: Walk, x: [i32; MOST], y: [i32; MOST], pressure: [i32; MOST]) -> Packets
     ensures { result ≡ packets_at (walk_of w) x y pressure }
 {
-    let a = w.x;
-    let b = w.y;
-    let c = w.pressure;
-    let open = begun(a, b, c);
+    let open = begun(w.x, w.y, w.pressure);
     Packets {
         count: w.count,
         x,
         y,
         pressure,
-        sound: w.sound & (w.ended & !open),
+        sound: w.sound & w.ended & !open,
     }
 }
 
@@ -212,7 +179,6 @@ fn finished(w: Walk, x: [i32; MOST], y: [i32; MOST], pressure: [i32; MOST]) -> P
 pub fn read_packets(bytes: &[u8]) -> Packets
     ensures { result ≡ packets_from (packets_of (events_of bytes.now)) }
 {
-    let records = bytes.len() / records::LENGTH;
     let mut x = [0i32; MOST];
     let mut y = [0i32; MOST];
     let mut pressure = [0i32; MOST];
@@ -228,22 +194,17 @@ pub fn read_packets(bytes: &[u8]) -> Packets
         sound: true,
         ended: false,
     };
-    let mut k: usize = 0;
-    while k < records {
+    for k in 0..bytes.len() / records::LENGTH {
         let said = said_of(records::word_at(bytes, 8 * k));
         let value = records::word_at(bytes, 8 * k + 4);
         let was = w;
         w = heard(was, said, value);
-        k += 1;
         if closes(was, said) {
             let at = was.count;
             if at < MOST {
-                let a = was.x;
-                x[at] = value_of(a);
-                let b = was.y;
-                y[at] = value_of(b);
-                let c = was.pressure;
-                pressure[at] = value_of(c);
+                x[at] = value_of(was.x);
+                y[at] = value_of(was.y);
+                pressure[at] = value_of(was.pressure);
             }
         }
     }
@@ -276,12 +237,10 @@ pub fn values_ok(
     requires { Fit31 setup × (count ≤ most) }
     ensures { result ≡ contacts_good (panel_seen setup) (contacts_from count 0 x y pressure) }
 {
-    let mut i: usize = 0;
-    while i < count {
+    for i in 0..count {
         if !contact_ok(setup, x[i], y[i], pressure[i]) {
             return false;
         }
-        i += 1;
     }
     true
 }

@@ -54,22 +54,21 @@ fn offer(x: u32, y: u32, nx: &[u32; 5], ny: &[u32; 5], c: usize) -> u64
     requires { (x ≤ largest) × (y ≤ largest) × Near nx.now × Near ny.now × (c < 5) }
     ensures { (result ≡ 8 * distance (point x y) (point (get_or nx.now c 0) (get_or ny.now c 0)) + c) × (result ≤ 0x8_0000_0000) }
 {
-    let bx = nx[c];
-    let by = ny[c];
-    let far = distance_of(x, y, bx, by);
-    CHOICES * (far as u64) + (c as u64)
+    let far = distance_of(x, y, nx[c], ny[c]);
+    CHOICES * u64::from(far) + c as u64
 }
 
 fn offers(x: u32, y: u32, nx: &[u32; 5], ny: &[u32; 5]) -> [u64; 5]
     requires { (x ≤ largest) × (y ≤ largest) × Near nx.now × Near ny.now }
     ensures { Offers result nx.now ny.now x y × Short result }
 {
-    let a = offer(x, y, nx, ny, 0);
-    let b = offer(x, y, nx, ny, 1);
-    let c = offer(x, y, nx, ny, 2);
-    let d = offer(x, y, nx, ny, 3);
-    let e = offer(x, y, nx, ny, 4);
-    [a, b, c, d, e]
+    [
+        offer(x, y, nx, ny, 0),
+        offer(x, y, nx, ny, 1),
+        offer(x, y, nx, ny, 2),
+        offer(x, y, nx, ny, 3),
+        offer(x, y, nx, ny, 4),
+    ]
 }
 
 // The least offer with these contacts free, those behind counted in.
@@ -79,9 +78,7 @@ fn cell(row: &[u64; 32], offers: &[u64; 5], free: usize) -> u64
 {
     let later = row[free];
     let mut best = ALONE_OFFER + later;
-    let mut c = NEWS;
-    while c != 0 {
-        c -= 1;
+    for c in (0..NEWS).rev() {
         if (free >> c) % 2 == 1 {
             let rest: usize = free - (1 << c);
             let own = offers[c];
@@ -100,9 +97,7 @@ fn turn(row: &mut [u64; 32], made: &mut [u8; 1024], offers: &[u64; 5], i: usize,
     requires { (i < 32) × (all < 32) × Low row.old all 31 × Short offers.now × (length row.old ≡ 32) × (length made.old ≡ 1024) }
     ensures { Turned offers.now row.old row.new made.old made.new i all }
 {
-    let mut free = all + 1;
-    while free != 0 {
-        free -= 1;
+    for free in (0..all + 1).rev() {
         let v = cell(row, offers, free);
         let c = v % CHOICES;
         row[free] = v - c;
@@ -133,12 +128,8 @@ fn fill(
     let all = all_of(news);
     let mut row: [u64; 32] = [0; 32];
     let mut made: [u8; 1024] = [ALONE; 1024];
-    let mut i = olds;
-    while i != 0 {
-        i -= 1;
-        let x = ox[i];
-        let y = oy[i];
-        let d = offers(x, y, nx, ny);
+    for i in (0..olds).rev() {
+        let d = offers(ox[i], oy[i], nx, ny);
         turn(&mut row, &mut made, &d, i, all);
     }
     made
@@ -170,12 +161,10 @@ pub fn pair_up(
     let made = fill(ox, oy, olds, nx, ny, news);
     let mut out: [u8; 32] = [ALONE; 32];
     let mut free = all_of(news);
-    let mut i: usize = 0;
-    while i < olds {
+    for i in 0..olds {
         let c = made[SETS * i + free];
         out[i] = c;
         free = less(free, c as usize);
-        i += 1;
     }
     out
 }
@@ -186,11 +175,8 @@ fn marks_of(pairing: &[u8; 32]) -> [bool; 6]
     ensures { result ≡ marks pairing.now }
 {
     let mut marks: [bool; 6] = [false; 6];
-    let mut i: usize = 0;
-    while i < SLOTS {
-        let c = pairing[i];
-        marks[c as usize] = true;
-        i += 1;
+    for c in pairing {
+        marks[*c as usize] = true;
     }
     marks
 }
@@ -203,13 +189,9 @@ fn left_of(pairing: &[u8; 32], news: usize) -> [u8; 32]
     let marks = marks_of(pairing);
     let mut left: [u8; 32] = [ALONE; 32];
     let mut count: usize = 0;
-    let mut c: usize = 0;
-    while c < news {
-        let own = c;
-        c += 1;
-        let paired = marks[own];
-        if !paired {
-            left[count] = own as u8;
+    for c in 0..news {
+        if !marks[c] {
+            left[count] = c as u8;
             count += 1;
         }
     }
@@ -225,18 +207,12 @@ pub fn place(live: &[bool; 32], pairing: &[u8; 32], news: usize) -> [u8; 32]
     let mut out: [u8; 32] = [ALONE; 32];
     let mut paired: usize = 0;
     let mut fresh: usize = 0;
-    let mut slot: usize = 0;
-    while slot < SLOTS {
-        let at = slot;
-        slot += 1;
-        let old = live[at];
-        if old {
-            let c = pairing[paired];
-            out[at] = c;
+    for slot in 0..SLOTS {
+        if live[slot] {
+            out[slot] = pairing[paired];
             paired += 1;
         } else {
-            let more = left[fresh];
-            out[at] = more;
+            out[slot] = left[fresh];
             fresh += 1;
         }
     }

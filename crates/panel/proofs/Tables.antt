@@ -1,16 +1,17 @@
 -- The tests of a table as a loop makes them: common's laws of any table, of the panel's. Cited by the proofs of the loops here and in the writer's crates. Assumes nothing.
-use mathlib.Core.Path.{◌≡◌, refl}
+use mathlib.Core.Path.{◌≡◌, refl, sym, ap, ◌∙◌}
+use native.Mathlib.Omega.{arith}
 use mathlib.Core.Bool.{Bool, true, not, ◌&&◌}
 use mathlib.Core.List.{List, [], ◌∷◌}
 use Prim.Native.Nat.{ℕ, ◌+◌, ◌-◌, ◌≤◌, ◌<◌}
 use native.Mathlib.Numerals.{add-one}
 use lib.Dec.{T}
 use lib.IntN.{ℤ}
-use lib.ListN.{take, drop, get_or, length, drop_of_length-le}
+use lib.ListN.{take, drop, get_or, get_or-replicate, length, length-replicate, drop_of_length-le}
 use lib.Seq.{drop-cons}
 use Rattle.model.specs.Numbers.{eq_z}
 use Rattle.model.specs.Panel.{Field, records}
-use Rattle.model.specs.Table.{Table, unheld, ids, eq_slot, eq_table, good_slot, good_records, good_table}
+use Rattle.model.specs.Table.{Table, unheld, eq_slot, eq_table, good_slot, good_records, good_table}
 use Rattle.common.proofs.Tables as Any
 pub use Rattle.common.proofs.Tables.{unmapped}
 use Rattle.panel.specs.declared.Slot as S
@@ -40,15 +41,9 @@ front t n i = table_of (drop i (take n t))
 
 module _ (t : List S.Slot) (n : ℕ) (h : n ≤ length t) where
   module _ (i : ℕ) (k : i < n) where
-    pub unheld-turn : (v : ℤ) → unheld v (ids (front t n i)) ≡ (not (eq_z v (get_or t i blank).id.0) && unheld v (ids (front t n (i + 1))))
-    unheld-turn = Any.unheld-turn slot_of blank t n h i k
-
     pub slots-turn : (fs : List Field)
         → good_records fs (n - i) (front t n i) ≡ (good_slot fs (slot_of (get_or t i blank)) && good_records fs (n - (i + 1)) (front t n (i + 1)))
     slots-turn = Any.slots-turn slot_of blank t n h i k
-
-  pub unheld-over : (i : ℕ) → i ≡ n → (v : ℤ) → unheld v (ids (front t n i)) ≡ true
-  unheld-over = Any.unheld-over slot_of t n
 
   pub slots-over : (i : ℕ) → i ≡ n → (fs : List Field) → good_records fs (n - i) (front t n i) ≡ true
   slots-over = Any.slots-over slot_of t n
@@ -64,6 +59,20 @@ module _ (a b : List S.Slot) where
 
     pub same_over : SameFrom i a b → from i ≡ true
     same_over = Any.same_over slot_of a b i
+
+-- ---- the records that were never used
+
+-- Whether those from i on were not.
+abbrev pub rest_good : List S.Slot → ℕ → Bool
+rest_good t i = from t unused_all i
+
+module _ (t : List S.Slot) (full : length t ≡ records) (i : ℕ) where
+  -- What the test of one says of it and of those after it.
+  pub rest-turn : i < records → rest_good t i ≡ (eq_slot (slot_of (get_or t i blank)) (slot_of unused) && rest_good t (i + 1))
+  rest-turn = Any.rest-turn slot_of blank t records unused full i
+
+  pub rest-over : records ≤ i → rest_good t i ≡ true
+  rest-over = Any.rest-over slot_of t records unused full i
 
 -- ---- a whole table
 
@@ -83,3 +92,6 @@ module _ (u : Setup) (t : List S.Slot) where
 
 pub slot_at : (t : List S.Slot) (k : ℕ) → k < length t → get_or (table_of t) k [] ≡ slot_of (get_or t k blank)
 slot_at = Any.slot_at slot_of blank
+
+-- What one turn of a loop over a table shows, and its end: cited by name at the loops of `src`.
+pub ruleset turns = (slots-turn, rest-turn, same_over)

@@ -1,6 +1,8 @@
 // The panel's types, and the tests of a setup, a slot and a table. The reader and the writer stand on it.
 #![tactic(auto)]
 
+mod words;
+
 ghost use Rattle.std.specs.Prelude.{◌≡◌, ◌&&◌, ◌+◌, ◌<◌, ◌≤◌, length, take, drop};
 ghost use Rattle.model.specs.Panel.{base, setup_good, per_slot, records};
 ghost use Rattle.model.specs.Table.{numbers_of, ids, unheld, good_slot, eq_slot, eq_table, ids_differ as ids_apart, good_records};
@@ -34,7 +36,7 @@ pub const LEAST_PRESSURE: u32 = 1;
 pub const LEAST_SIZE: u32 = 0;
 
 // The numbers of a slot are unsigned but for the id: only good numbers are ever held, and a test against a largest value is one comparison.
-#[derive(Clone, Copy)]
+#[derive(Clone, Copy, PartialEq, Eq)]
 pub struct Slot {
     pub id: TrackingId,
     pub x: u32,
@@ -106,11 +108,11 @@ pub fn setup_ok(s: Setup) -> bool
     ensures { result ≡ setup_good base (setup_of s) }
 {
     common::between(s.n, RECORDS)
-        & (common::between(s.x as usize, MOST_POSITION)
-            & (common::between(s.y as usize, MOST_POSITION)
-                & (common::between(s.pressure as usize, MOST_PRESSURE)
-                    & (common::between(s.major as usize, MOST_SIZE)
-                        & common::between(s.minor as usize, MOST_SIZE)))))
+        && common::between(s.x as usize, MOST_POSITION)
+        && common::between(s.y as usize, MOST_POSITION)
+        && common::between(s.pressure as usize, MOST_PRESSURE)
+        && common::between(s.major as usize, MOST_SIZE)
+        && common::between(s.minor as usize, MOST_SIZE)
 }
 
 pub fn row_at(l: &[i32], at: usize) -> Row
@@ -127,6 +129,7 @@ pub fn row_at(l: &[i32], at: usize) -> Row
     }
 }
 
+// By `&` every test is made and none is a branch of its own, as in `slot_ok`. Written flat as there, the goal `returns` does not close.
 pub fn numbers_ok(setup: Setup, r: Row) -> bool
     ensures { result ≡ good_slot (axes_of setup) (numbers_of (row_of r)) }
 {
@@ -139,23 +142,18 @@ pub fn numbers_ok(setup: Setup, r: Row) -> bool
 pub fn slot_ok(setup: Setup, s: Slot) -> bool
     ensures { result ≡ good_slot (fields_of setup) (slot_of s) }
 {
-    let id = s.id;
-    common::id_ok(id.0)
-        & ((s.x <= setup.x)
-            & ((s.y <= setup.y)
-                & ((s.pressure <= setup.pressure)
-                    & ((s.major <= setup.major) & (s.minor <= setup.minor)))))
+    common::id_ok(s.id.0)
+        & (s.x <= setup.x)
+        & (s.y <= setup.y)
+        & (s.pressure <= setup.pressure)
+        & (s.major <= setup.major)
+        & (s.minor <= setup.minor)
 }
 
 fn slots_same(a: Slot, b: Slot) -> bool
     ensures { result ≡ eq_slot (slot_of a) (slot_of b) }
 {
-    let p = a.id;
-    let q = b.id;
-    common::same(p.0, q.0)
-        & ((a.x == b.x)
-            & ((a.y == b.y)
-                & ((a.pressure == b.pressure) & ((a.major == b.major) & (a.minor == b.minor)))))
+    a == b
 }
 
 pub fn slot_unused(s: Slot) -> bool
@@ -165,60 +163,48 @@ pub fn slot_unused(s: Slot) -> bool
 }
 
 // Whether the panel's slots are good, whatever stands past them.
+#[tactic(auto, using(crate::proofs::Tables::turns))]
 fn slots_ok(setup: Setup, t: [Slot; RECORDS]) -> bool
     requires { setup.n ≤ records }
     ensures { result ≡ good_records (fields_of setup) setup.n (table_of (take setup.n t)) }
 {
-    let n = setup.n;
-    let mut i: usize = 0;
-    while i < n {
+    for i in 0..setup.n {
         if !slot_ok(setup, t[i]) {
             return false;
         }
-        i += 1;
     }
     true
 }
 
+#[tactic(auto, using(crate::proofs::Tables::turns))]
 fn rest_unused(n: usize, t: [Slot; RECORDS]) -> bool
     ensures { result ≡ eq_table (table_of (drop n t)) (table_of (drop n unused_all)) }
 {
-    let mut i = n;
-    while i < RECORDS {
+    for i in n..RECORDS {
         if !slot_unused(t[i]) {
             return false;
         }
-        i += 1;
     }
     true
 }
 
 // Whether the first n records are good slots, and the others unused. A panel of all records has no others, and its table is not copied for them.
+#[tactic(auto, using(crate::proofs::Tables::good_parts))]
 pub fn table_ok(setup: Setup, t: [Slot; RECORDS]) -> bool
     requires { setup.n ≤ records }
     ensures { result ≡ good_records (fields_of setup) setup.n (table_of t) }
 {
-    if !slots_ok(setup, t) {
-        return false;
-    }
-    if setup.n == RECORDS {
-        return true;
-    }
-    rest_unused(setup.n, t)
+    slots_ok(setup, t) && (setup.n == RECORDS || rest_unused(setup.n, t))
 }
 
 fn unheld_before(t: [Slot; RECORDS], k: usize, v: i32) -> bool
     requires { k ≤ records }
     ensures { result ≡ unheld v (ids (table_of (take k t))) }
 {
-    let mut j: usize = 0;
-    while j < k {
-        let o = t[j];
-        let p = o.id;
-        if common::same(v, p.0) {
+    for j in 0..k {
+        if t[j].id.0 == v {
             return false;
         }
-        j += 1;
     }
     true
 }
@@ -229,21 +215,14 @@ pub fn ids_differ(n: usize, t: [Slot; RECORDS]) -> bool
     ensures { result ≡ ids_apart (table_of t) }
 {
     let mut met: u64 = 0;
-    let mut k: usize = 0;
-    while k < n {
-        let s = k;
-        let c = t[s];
-        let q = c.id;
-        let v = q.0;
-        k += 1;
-        if !common::same(v, -1) {
+    for k in 0..n {
+        let v = t[k].id.0;
+        if v != TrackingId::UNUSED {
             let bit = 1u64 << (common::nat_of(v) % 64);
             if met & bit == 0 {
-                met = met | bit;
-            } else {
-                if !unheld_before(t, s, v) {
-                    return false;
-                }
+                met |= bit;
+            } else if !unheld_before(t, k, v) {
+                return false;
             }
         }
     }
@@ -262,35 +241,29 @@ fn records_judged(setup: Setup, t: [Slot; RECORDS]) -> Judged
     requires { setup.n ≤ records }
     ensures { JudgedBy setup t result }
 {
-    let n = setup.n;
-    let mut past = n;
-    while past < RECORDS {
+    for past in setup.n..RECORDS {
         if !slot_unused(t[past]) {
             return Judged {
                 good: false,
                 apart: false,
             };
         }
-        past += 1;
     }
     let mut held: u64 = 0;
     let mut apart = true;
-    let mut j: usize = 0;
-    while j < n {
+    for j in 0..setup.n {
         let slot = t[j];
-        j += 1;
         if !slot_ok(setup, slot) {
             return Judged {
                 good: false,
                 apart: false,
             };
         }
-        let q = slot.id;
-        let id = q.0;
-        if !common::same(id, -1) {
+        let id = slot.id.0;
+        if id != TrackingId::UNUSED {
             let mark = 1u64 << (common::nat_of(id) % 64);
             apart = apart & (held & mark == 0);
-            held = held | mark;
+            held |= mark;
         }
     }
     Judged { good: true, apart }
@@ -302,25 +275,18 @@ pub fn table_good(setup: Setup, t: [Slot; RECORDS]) -> bool
     ensures { result ≡ (good_records (fields_of setup) setup.n (table_of t) && ids_apart (table_of t)) }
 {
     let told = records_judged(setup, t);
-    if !told.good {
-        return false;
-    }
-    if told.apart {
-        return true;
-    }
-    ids_differ(setup.n, t)
+    told.good && (told.apart || ids_differ(setup.n, t))
 }
 
+#[tactic(auto, using(crate::proofs::Tables::turns))]
 pub fn tables_same(n: usize, a: [Slot; RECORDS], b: [Slot; RECORDS]) -> bool
     requires { (n ≤ records) × SameFrom n a b }
     ensures { result ≡ eq_table (table_of a) (table_of b) }
 {
-    let mut s: usize = 0;
-    while s < n {
+    for s in 0..n {
         if !slots_same(a[s], b[s]) {
             return false;
         }
-        s += 1;
     }
     true
 }

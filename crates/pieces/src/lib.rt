@@ -55,28 +55,25 @@ impl LineState {
         ensures { result ≡ fresh_from (fresh_line_call base (setup_of (given n x y pressure major minor))) }
     {
         let made = ReaderState::fresh(n, x, y, pressure, major, minor);
-        let verdict = made.verdict;
-        let reader = made.state;
         FreshAnswer {
-            verdict,
+            verdict: made.verdict,
             state: LineState {
                 left: [0; PLACES],
                 count: 0,
-                reader,
+                reader: made.state,
             },
         }
     }
 }
 
+#[tactic(auto, using(model::proofs::Places::clear_from))]
 fn unused_clear(left: [u8; PLACES], count: usize) -> bool
     ensures { result ≡ zeros (drop count left) }
 {
-    let mut i = count;
-    while i < PLACES {
+    for i in count..PLACES {
         if left[i] != 0 {
             return false;
         }
-        i += 1;
     }
     true
 }
@@ -84,10 +81,7 @@ fn unused_clear(left: [u8; PLACES], count: usize) -> bool
 fn left_ok(left: [u8; PLACES], count: usize) -> bool
     ensures { result ≡ left_good left count }
 {
-    if PLACES < count {
-        return false;
-    }
-    unused_clear(left, count)
+    count <= PLACES && unused_clear(left, count)
 }
 
 // Bytes laid over others from a place on; all others stay.
@@ -95,11 +89,7 @@ fn lay(to: &mut [u8], at: usize, from: &[u8])
     requires { at + length from.now ≤ length to.old }
     ensures { to.new ≡ paste to.old at from.now (length from.now) }
 {
-    let mut i: usize = 0;
-    while i < from.len() {
-        to[at + i] = from[i];
-        i += 1;
-    }
+    to[at..at + from.len()].copy_from_slice(from);
 }
 
 // The record that was cut: the bytes held, and those that it lacked.
@@ -151,7 +141,7 @@ fn earlier(a: FirstSkipped, b: FirstSkipped) -> FirstSkipped
 {
     match a {
         FirstSkipped::None => b,
-        FirstSkipped::Event(kind, code) => FirstSkipped::Event(kind, code),
+        _ => a,
     }
 }
 
@@ -159,20 +149,13 @@ fn added(a: Counts, b: Counts) -> Counts
     requires { total (counts_of a) + total (counts_of b) < 2 ^ 64 }
     ensures { result ≡ counts_from (plus (counts_of a) (counts_of b)) }
 {
-    let shown = a.shown + b.shown;
-    let types = a.types + b.types;
-    let codes = a.codes + b.codes;
-    let bad = a.bad + b.bad;
-    let ignored = a.ignored + b.ignored;
-    let one = a.first;
-    let other = b.first;
     Counts {
-        shown,
-        types,
-        codes,
-        bad,
-        ignored,
-        first: earlier(one, other),
+        shown: a.shown + b.shown,
+        types: a.types + b.types,
+        codes: a.codes + b.codes,
+        bad: a.bad + b.bad,
+        ignored: a.ignored + b.ignored,
+        first: earlier(a.first, b.first),
     }
 }
 
@@ -193,16 +176,14 @@ fn took(before: Counts, ran: RunAnswer, rest: &[u8]) -> TakeAnswer
     requires { total (counts_of before) + total (counts_of ran.counts) < 2 ^ 64 }
     ensures { result ≡ took_from before ran rest.now }
 {
-    let reader = ran.state;
-    let counts = ran.counts;
     TakeAnswer {
         verdict: Verdict::Accepted,
         state: LineState {
             left: left_of(rest),
             count: rest.len() % records::LENGTH,
-            reader,
+            reader: ran.state,
         },
-        counts: added(before, counts),
+        counts: added(before, ran.counts),
     }
 }
 
@@ -213,11 +194,8 @@ fn take_cut(reader: ReaderState, left: [u8; PLACES], count: usize, piece: &[u8])
 {
     let record = first_record(left, count, piece);
     let one = reader::run_accepted(reader, &record);
-    let next = one.state;
-    let before = one.counts;
-    let lacked = records::LENGTH - count;
-    let rest = &piece[lacked..];
-    took(before, reader::run_accepted(next, rest), rest)
+    let rest = &piece[records::LENGTH - count..];
+    took(one.counts, reader::run_accepted(one.state, rest), rest)
 }
 
 // Takes a piece, any bytes, none too: refusal 2.
@@ -234,10 +212,9 @@ pub fn take(state: LineState, piece: &[u8]) -> TakeAnswer
         return unread(Verdict::State, state);
     }
     if piece.len() < records::LENGTH - count {
-        let all = count + piece.len();
         let next = LineState {
             left: longer(left, count, piece),
-            count: all,
+            count: count + piece.len(),
             reader,
         };
         return unread(Verdict::Accepted, next);
@@ -252,24 +229,18 @@ pub fn take(state: LineState, piece: &[u8]) -> TakeAnswer
 pub fn load(state: LineState, image: &[i32], current: SlotNumber) -> LoadAnswer
     ensures { result ≡ loaded_from (line_load_call base (seen state) image.now current.0) }
 {
-    let left = state.left;
-    let held = state.count;
-    if !left_ok(left, held) {
+    if !left_ok(state.left, state.count) {
         return LoadAnswer {
             verdict: Verdict::State,
             state,
         };
     }
-    let before = state.reader;
-    let loaded = reader::load(before, image, current);
-    let verdict = loaded.verdict;
-    let reader = loaded.state;
+    let loaded = reader::load(state.reader, image, current);
     LoadAnswer {
-        verdict,
+        verdict: loaded.verdict,
         state: LineState {
-            left,
-            count: held,
-            reader,
+            reader: loaded.state,
+            ..state
         },
     }
 }
@@ -278,10 +249,9 @@ pub fn load(state: LineState, image: &[i32], current: SlotNumber) -> LoadAnswer
 pub fn ask(state: LineState, slot: SlotNumber) -> SlotAnswer
     ensures { AnswersAs (line_ask_call base (seen state) slot.0) result }
 {
-    let left = state.left;
-    if !left_ok(left, state.count) {
-        return SlotAnswer::Refused(Verdict::State);
+    if left_ok(state.left, state.count) {
+        reader::ask(state.reader, slot)
+    } else {
+        SlotAnswer::Refused(Verdict::State)
     }
-    let reader = state.reader;
-    reader::ask(reader, slot)
 }

@@ -24,12 +24,9 @@ const TAKEN: usize = 2 * RECORDS;
 fn absent(taken: &[i32], v: TrackingId) -> bool
     ensures { result ≡ unheld v.0 taken.now }
 {
-    let id = v.0;
     let mut found = false;
-    let mut j: usize = 0;
-    while j < taken.len() {
-        found = found | common::same(id, taken[j]);
-        j += 1;
+    for id in taken {
+        found |= common::same(v.0, *id);
     }
     !found
 }
@@ -38,8 +35,7 @@ pub fn id_of(k: u32) -> TrackingId
     requires { k < id_count }
     ensures { result ≡ record { 0 = pos k } }
 {
-    let v = k as i32;
-    TrackingId(v)
+    TrackingId(k as i32)
 }
 
 pub fn after(k: u32) -> u32
@@ -62,10 +58,8 @@ pub fn marks_of(ids: &[i32]) -> u64
     ensures { Met result ids.now }
 {
     let mut held: u64 = 0;
-    let mut j: usize = 0;
-    while j < ids.len() {
-        held = held | (1u64 << (common::nat_of(ids[j]) % 64));
-        j += 1;
+    for id in ids {
+        held |= 1u64 << (common::nat_of(*id) % 64);
     }
     held
 }
@@ -75,10 +69,7 @@ fn free(taken: &[i32], held: u64, k: u32) -> bool
     requires { (k < id_count) × Met held taken.now }
     ensures { result ≡ unheld (pos k) taken.now }
 {
-    if held & mark_of(k) == 0 {
-        return true;
-    }
-    absent(taken, id_of(k))
+    held & mark_of(k) == 0 || absent(taken, id_of(k))
 }
 
 // The first number from `from` on, wrapping, that is not taken: as many tries as ids can be taken are enough.
@@ -87,13 +78,11 @@ pub fn choose(taken: &[i32], held: u64, from: u32) -> u32
     ensures { (result < id_count) × (result ≡ free_id taken.now from) }
 {
     let mut k = from;
-    let mut tries = TAKEN;
-    while 0 < tries {
+    for _tries in 0..TAKEN {
         if free(taken, held, k) {
             return k;
         }
         k = after(k);
-        tries -= 1;
     }
     k
 }
@@ -104,13 +93,8 @@ fn ids_of(n: usize, t: [Slot; RECORDS]) -> [i32; TAKEN]
     ensures { take n result ≡ ids (table_of (take n t)) }
 {
     let mut l = [0; TAKEN];
-    let mut i: usize = 0;
-    while i < n {
-        let s = t[i];
-        let q = s.id;
-        let v = q.0;
-        l[i] = v;
-        i += 1;
+    for i in 0..n {
+        l[i] = t[i].id.0;
     }
     l
 }
@@ -118,31 +102,20 @@ fn ids_of(n: usize, t: [Slot; RECORDS]) -> [i32; TAKEN]
 pub fn begins(kind: i32, id: TrackingId) -> bool
     ensures { result ≡ begun (fate kind id.0) }
 {
-    if common::same(kind, 0) {
-        return false;
-    }
-    if common::same(kind, 2) {
-        return true;
-    }
-    common::same(id.0, TrackingId::UNUSED)
+    !common::same(kind, 0) && (common::same(kind, 2) || common::same(id.0, TrackingId::UNUSED))
 }
 
 // A slot that has a contact: its id and the row's numbers, which are not negative, so that their bits are they themselves.
 pub fn contact(id: TrackingId, r: Row) -> Slot
     ensures { result ≡ contact_of id.0 (row_of r) }
 {
-    let a = records::bits_of(r.x);
-    let b = records::bits_of(r.y);
-    let c = records::bits_of(r.pressure);
-    let d = records::bits_of(r.major);
-    let e = records::bits_of(r.minor);
     Slot {
         id,
-        x: a,
-        y: b,
-        pressure: c,
-        major: d,
-        minor: e,
+        x: records::bits_of(r.x),
+        y: records::bits_of(r.y),
+        pressure: records::bits_of(r.pressure),
+        major: records::bits_of(r.major),
+        minor: records::bits_of(r.minor),
     }
 }
 
@@ -152,11 +125,7 @@ pub fn lift(was: Slot) -> Slot
 {
     Slot {
         id: TrackingId(TrackingId::UNUSED),
-        x: was.x,
-        y: was.y,
-        pressure: was.pressure,
-        major: was.major,
-        minor: was.minor,
+        ..was
     }
 }
 
@@ -166,12 +135,12 @@ pub fn stays(was: Slot, r: Row) -> Slot
     if common::same(r.first, 0) {
         return lift(was);
     }
-    let id = was.id;
-    contact(id, r)
+    contact(was.id, r)
 }
 
 // ---- rows that leave their slot as it is
 
+// By `&` and not `&&`: every test is made, and none is a branch of its own.
 fn numbers_same(was: Slot, r: Row) -> bool
     ensures { result ≡ same_numbers was (row_of r) }
 {
@@ -186,14 +155,10 @@ fn numbers_same(was: Slot, r: Row) -> bool
 pub fn quiet(was: Slot, r: Row) -> bool
     ensures { result ≡ quiet_row was (row_of r) }
 {
-    let id = was.id;
-    if common::same(id.0, TrackingId::UNUSED) {
+    if common::same(was.id.0, TrackingId::UNUSED) {
         return common::same(r.first, 0);
     }
-    if !common::same(r.first, 1) {
-        return false;
-    }
-    (was.pressure != 0) & numbers_same(was, r)
+    common::same(r.first, 1) && (was.pressure != 0) & numbers_same(was, r)
 }
 
 // The first slot whose row does not leave it as it is, or n. Most frames are quiet, and then nothing else is asked.
@@ -201,18 +166,16 @@ pub fn first_loud(n: usize, t: [Slot; RECORDS], frame: &[i32]) -> usize
     requires { (n ≤ records) × (length frame.now ≡ per_slot * n) }
     ensures { FirstLoud n t frame.now result }
 {
-    let mut s: usize = 0;
-    while s < n {
+    for s in 0..n {
         let r = panel::row_at(frame, PER_SLOT * s);
         if !quiet(t[s], r) {
             return s;
         }
-        s += 1;
     }
     n
 }
 
-// ---- the walk
+// ---- the walk: each branch of a turn ends it, so that its proof knows its tests
 
 #[derive(Clone, Copy)]
 pub struct Planned {
@@ -259,36 +222,31 @@ fn give_ids(
     let mut m = n;
     let mut t = made;
     let mut k = counter;
-    let mut s = from.slot;
     let mut changes = from.changes;
-    while s < n {
+    for s in from.slot..n {
         let r = panel::row_at(frame, PER_SLOT * s);
         let was = t[s];
         if quiet(was, r) {
-            s += 1;
-        } else {
-            if !frame::row_ok(setup, r) {
-                return refused(old, counter);
-            }
-            if begins(r.first, was.id) {
-                let j = choose(&taken[..m], held, k);
-                let v = id_of(j);
-                let w = contact(v, r);
-                t[s] = w;
-                changes = tally::with_slot(changes, SlotNumber(s), tally::differ(was, w));
-                let q = v.0;
-                taken[m] = q;
-                held = held | mark_of(j);
-                m += 1;
-                k = after(j);
-                s += 1;
-            } else {
-                let w = stays(was, r);
-                t[s] = w;
-                changes = tally::with_slot(changes, SlotNumber(s), tally::differ(was, w));
-                s += 1;
-            }
+            continue;
         }
+        if !frame::row_ok(setup, r) {
+            return refused(old, counter);
+        }
+        if begins(r.first, was.id) {
+            let j = choose(&taken[..m], held, k);
+            let v = id_of(j);
+            let w = contact(v, r);
+            t[s] = w;
+            changes = tally::with_slot(changes, SlotNumber(s), tally::differ(was, w));
+            taken[m] = v.0;
+            held |= mark_of(j);
+            m += 1;
+            k = after(j);
+            continue;
+        }
+        let w = stays(was, r);
+        t[s] = w;
+        changes = tally::with_slot(changes, SlotNumber(s), tally::differ(was, w));
     }
     Planned {
         table: t,
@@ -313,34 +271,29 @@ pub fn plan_frame(
     let n = setup.n;
     let mut t = old;
     let mut changes = Changed::none();
-    let mut s = from;
-    while s < n {
+    for s in from..n {
         let r = panel::row_at(frame, PER_SLOT * s);
         let was = t[s];
-        let id = was.id;
-        if common::same(r.first, 1) & !common::same(id.0, TrackingId::UNUSED) {
-            let w = contact(id, r);
+        if common::same(r.first, 1) & !common::same(was.id.0, TrackingId::UNUSED) {
+            let w = contact(was.id, r);
             let d = tally::differ(was, w);
             if (d == 0) & (was.pressure != 0) {
-                s += 1;
-            } else {
-                if !frame::row_ok(setup, r) {
-                    return refused(old, counter);
-                }
-                t[s] = w;
-                changes = tally::with_changed(changes, SlotNumber(s), d);
-                s += 1;
+                continue;
             }
-        } else {
-            if !common::same(r.first, 0) {
-                let from = Reached { slot: s, changes };
-                return give_ids(setup, old, t, counter, frame, from);
+            if !frame::row_ok(setup, r) {
+                return refused(old, counter);
             }
-            let w = lift(was);
             t[s] = w;
-            changes = tally::with_slot(changes, SlotNumber(s), tally::differ(was, w));
-            s += 1;
+            changes = tally::with_changed(changes, SlotNumber(s), d);
+            continue;
         }
+        if !common::same(r.first, 0) {
+            let from = Reached { slot: s, changes };
+            return give_ids(setup, old, t, counter, frame, from);
+        }
+        let w = lift(was);
+        t[s] = w;
+        changes = tally::with_slot(changes, SlotNumber(s), tally::differ(was, w));
     }
     Planned {
         table: t,

@@ -3,6 +3,8 @@
 // public functions, neither requires anything, and what they answer is the model's. `well_formed` and `clock_ok` are public for `commands`.
 #![tactic(auto)]
 
+mod words;
+
 ghost use Rattle.std.specs.Prelude.{◌≡◌, ◌∷◌, [], ◌++◌, ◌-◌, ◌≤◌, take, drop};
 ghost use Rattle.model.specs.Pod.{kind_of, amended, length_of, places, held_in, emptied, unfinished, zeros, well_formed, waits_after, relative, word, signed, good_digits, good_three, good_clock, good_stick, judged_absolute, judged_time, judged_both, judged_stick, judged, clock_in, first_of};
 ghost use Rattle.pod.specs.Seen.{kind_seen, seen, held, clock_seen, held_clock, held_stick, held_report, report_seen, fresh_state, AnswersAs};
@@ -183,6 +185,7 @@ impl PodState {
 }
 
 // The one decision over a first byte that is no passed self-test.
+#[tactic(auto, unfolding(model::specs::Pod::kind_of))]
 fn kind_of(first: u8) -> Kind
     ensures { kind_seen result ≡ kind_of first }
 {
@@ -199,13 +202,11 @@ fn kind_of(first: u8) -> Kind
 }
 
 // By K3 before 01's table: while waiting a 0xF0 is no key.
+#[tactic(auto, unfolding(model::specs::Pod::amended))]
 fn opened(waits: bool, first: u8) -> Kind
     ensures { kind_seen result ≡ amended waits first }
 {
-    if !waits {
-        return kind_of(first);
-    }
-    if first == SELF_TEST {
+    if waits && first == SELF_TEST {
         return Kind::SelfTest;
     }
     kind_of(first)
@@ -227,52 +228,30 @@ fn length_of(kind: Kind) -> usize
     }
 }
 
-// By the complement, since no cast of 0x80 and more to an i8 is defined.
-fn signed_of(b: u8) -> i8
-    ensures { result ≡ signed b }
-{
-    if b < 0x80 {
-        return b as i8;
-    }
-    !((0xff - b) as i8)
-}
-
 fn join(high: u8, low: u8) -> u16
     ensures { result ≡ word high low }
 {
-    256 * (high as u16) + (low as u16)
+    u16::from_be_bytes([high, low])
 }
 
 // Two decimal digits.
 fn digits_ok(b: u8) -> bool
     ensures { result ≡ good_digits b }
 {
-    if MOST_DIGIT < b / 16 {
-        return false;
-    }
-    b % 16 <= MOST_DIGIT
+    b / 16 <= MOST_DIGIT && b % 16 <= MOST_DIGIT
 }
 
 fn three_ok(a: u8, b: u8, c: u8) -> bool
     ensures { result ≡ good_three a b c }
 {
-    if !digits_ok(a) {
-        return false;
-    }
-    if !digits_ok(b) {
-        return false;
-    }
-    digits_ok(c)
+    digits_ok(a) && digits_ok(b) && digits_ok(c)
 }
 
 // Every clock byte is two decimal digits; no month or hour is judged.
 pub fn clock_ok(clock: Clock) -> bool
     ensures { result ≡ good_clock (clock_seen clock) }
 {
-    if !three_ok(clock.year, clock.month, clock.day) {
-        return false;
-    }
-    three_ok(clock.hour, clock.minute, clock.second)
+    three_ok(clock.year, clock.month, clock.day) && three_ok(clock.hour, clock.minute, clock.second)
 }
 
 // Whether a stick byte is x000yyyy.
@@ -300,16 +279,15 @@ fn judge_absolute(flags: u8, x: u16, y: u16) -> Report
     Report::Absolute(Absolute { flags, x, y })
 }
 
+#[tactic(auto, unfolding(model::specs::Pod::signed))]
 fn relative_of(left: bool, right: bool, dx: u8, dy: u8) -> Report
     ensures { result ≡ held_report (relative left right (signed dx) (signed dy)) }
 {
-    let dx = signed_of(dx);
-    let dy = signed_of(dy);
     Report::Relative(Relative {
         left,
         right,
-        dx,
-        dy,
+        dx: dx.cast_signed(),
+        dy: dy.cast_signed(),
     })
 }
 
@@ -339,15 +317,13 @@ fn clock_of(bytes: [u8; PLACES], last: u8) -> Clock
 fn judge_both(s0: u8, s1: u8) -> Report
     ensures { result ≡ held_report (judged_both s0 s1) }
 {
-    if !stick_ok(s0) {
+    if !stick_ok(s0) || !stick_ok(s1) {
         return Report::BadReport;
     }
-    if !stick_ok(s1) {
-        return Report::BadReport;
-    }
-    let stick0 = stick_of(s0);
-    let stick1 = stick_of(s1);
-    Report::BothSticks(BothSticks { stick0, stick1 })
+    Report::BothSticks(BothSticks {
+        stick0: stick_of(s0),
+        stick1: stick_of(s1),
+    })
 }
 
 fn judge_stick(which: u8, s: u8) -> Report
@@ -356,8 +332,10 @@ fn judge_stick(which: u8, s: u8) -> Report
     if !stick_ok(s) {
         return Report::BadReport;
     }
-    let stick = stick_of(s);
-    Report::OneStick(OneStick { which, stick })
+    Report::OneStick(OneStick {
+        which,
+        stick: stick_of(s),
+    })
 }
 
 // A whole report: as many of the places as its kind has bytes before the last one, and the last one.
@@ -367,11 +345,7 @@ fn judge(kind: Kind, bytes: [u8; PLACES], last: u8) -> Report
     match kind {
         Kind::KeyDown(key) => Report::KeyDown(KeyDown { key }),
         Kind::KeyUp(key) => Report::KeyUp(KeyUp { key }),
-        Kind::Absolute => {
-            let x = join(bytes[2], bytes[3]);
-            let y = join(bytes[4], last);
-            judge_absolute(bytes[1], x, y)
-        }
+        Kind::Absolute => judge_absolute(bytes[1], join(bytes[2], bytes[3]), join(bytes[4], last)),
         Kind::Relative(left, right) => relative_of(left, right, bytes[1], last),
         Kind::TimeOfDay => judge_time(clock_of(bytes, last)),
         Kind::BothSticks => judge_both(bytes[1], last),
@@ -381,15 +355,14 @@ fn judge(kind: Kind, bytes: [u8; PLACES], last: u8) -> Report
     }
 }
 
+#[tactic(auto, using(model::proofs::Places::clear_from))]
 fn unused_clear(bytes: [u8; PLACES], count: usize) -> bool
     ensures { result ≡ zeros (drop count bytes) }
 {
-    let mut i = count;
-    while i < PLACES {
+    for i in count..PLACES {
         if bytes[i] != 0 {
             return false;
         }
-        i += 1;
     }
     true
 }
@@ -399,24 +372,16 @@ fn begun(bytes: [u8; PLACES], count: usize) -> bool
     requires { count ≤ places }
     ensures { result ≡ unfinished (take count bytes) }
 {
-    if count == 0 {
-        return true;
-    }
-    count < length_of(kind_of(bytes[0]))
+    count == 0 || count < length_of(kind_of(bytes[0]))
 }
 
+#[tactic(auto, unfolding(model::specs::Pod::well_formed))]
 pub fn well_formed(state: PodState) -> bool
     ensures { result ≡ well_formed (seen state) }
 {
-    let count = state.count;
-    let bytes = state.bytes;
-    if PLACES < count {
-        return false;
-    }
-    if !begun(bytes, count) {
-        return false;
-    }
-    unused_clear(bytes, count)
+    state.count <= PLACES
+        && begun(state.bytes, state.count)
+        && unused_clear(state.bytes, state.count)
 }
 
 fn first_of(state: PodState, byte: u8) -> u8
@@ -432,20 +397,7 @@ fn first_of(state: PodState, byte: u8) -> u8
 fn waits_after(waits: bool, report: Report) -> bool
     ensures { result ≡ waits_after waits (report_seen report) }
 {
-    match report {
-        Report::More => waits,
-        Report::KeyDown(_) => waits,
-        Report::KeyUp(_) => waits,
-        Report::Absolute(_) => waits,
-        Report::Relative(_) => waits,
-        Report::TimeOfDay(_) => waits,
-        Report::BothSticks(_) => waits,
-        Report::OneStick(_) => waits,
-        Report::SelfTestPassed(_) => false,
-        Report::BadByte(_) => waits,
-        Report::BadReport => waits,
-        Report::Refused => waits,
-    }
+    waits && !matches!(report, Report::SelfTestPassed(_))
 }
 
 // One byte: the state after it, and its answer. A state that is not well formed comes back as it is, and the byte is not read.
@@ -458,22 +410,19 @@ pub fn step(state: PodState, byte: u8) -> PodAnswer
             report: Report::Refused,
         };
     }
-    let count = state.count;
-    let bytes = state.bytes;
     let kind = opened(state.waits, first_of(state, byte));
-    if count + 1 < length_of(kind) {
+    if state.count + 1 < length_of(kind) {
         let mut next = state;
-        next.bytes[count] = byte;
-        next.count = count + 1;
+        next.bytes[next.count] = byte;
+        next.count += 1;
         return PodAnswer {
             state: next,
             report: Report::More,
         };
     }
-    let report = judge(kind, bytes, byte);
-    let empty = PodState::emptied(waits_after(state.waits, report));
+    let report = judge(kind, state.bytes, byte);
     PodAnswer {
-        state: empty,
+        state: PodState::emptied(waits_after(state.waits, report)),
         report,
     }
 }

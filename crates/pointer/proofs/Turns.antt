@@ -132,3 +132,7 @@ copied-over n t l u c = (
   sym (take-append-drop n l) ∙ ap₂ {C = List ℤ} (λ x y. x ++ y) c.done (c.rest ∙ sym (unused-ids n records) ∙ sym (ap ids u.rest)) ∙ sym (ids_parts n t),
   record { few = u.few; whole = c.full; rest = c.rest },
 )
+
+-- The same at the end of a loop that takes them out.
+pub copied-all : (n i : ℕ) (t : List Slot) (l : List ℤ) → Unused n t → i ≡ n → Copied n t l i → (l ≡ ids (table_of t)) × Idle n l
+copied-all n i t l u e c = copied-over n t l u (subst (λ k. Copied n t l k) e c)

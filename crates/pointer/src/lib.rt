@@ -36,12 +36,6 @@ const SUMS: usize = BEGINNING + 1;
 // The changed slots are a number of so many bits, of which each names a slot.
 const SLOTS: u32 = RECORDS as u32;
 
-fn wide(x: u8) -> usize
-    ensures { result ≡ x }
-{
-    x as usize
-}
-
 // ---- ids
 
 fn lives(id: i32) -> bool
@@ -56,11 +50,8 @@ pub fn live_count(n: usize, ids: &[i32]) -> usize
     ensures { (result ≡ live_count ids.now) × (result ≤ records) }
 {
     let mut count: usize = 0;
-    let mut i: usize = 0;
-    while i < n {
-        let id = ids[i];
-        i += 1;
-        if lives(id) {
+    for i in 0..n {
+        if lives(ids[i]) {
             count += 1;
         }
     }
@@ -84,12 +75,10 @@ fn all_marked(m: &[u8], top: usize) -> bool
     requires { (length m.now ≡ records) × (top ≤ records) }
     ensures { result ≡ marked top m.now }
 {
-    let mut j: usize = 0;
-    while j < top {
+    for j in 0..top {
         if m[j] != 1 {
             return false;
         }
-        j += 1;
     }
     true
 }
@@ -100,10 +89,8 @@ fn zero_from(n: usize, ranks: &[u8]) -> bool
     ensures { result ≡ all_zeros (records - n) (drop n ranks.now) }
 {
     let mut some = false;
-    let mut i = n;
-    while i < RECORDS {
-        some = some | (ranks[i] != 0);
-        i += 1;
+    for i in n..RECORDS {
+        some |= ranks[i] != 0;
     }
     !some
 }
@@ -118,21 +105,16 @@ pub fn ranks_good(n: usize, ids: &[i32], ranks: &[u8]) -> bool
     }
     let mut held = [0u8; RECORDS];
     let mut top: usize = 0;
-    let mut i: usize = 0;
-    while i < n {
-        let id = ids[i];
-        let r = wide(ranks[i]);
-        i += 1;
-        if lives(id) {
+    for i in 0..n {
+        let r = usize::from(ranks[i]);
+        if lives(ids[i]) {
             if RECORDS <= r {
                 return false;
             }
             held[r] = 1;
             top = higher(top, r);
-        } else {
-            if r != 0 {
-                return false;
-            }
+        } else if r != 0 {
+            return false;
         }
     }
     all_marked(&held, top)
@@ -143,12 +125,10 @@ pub fn oldest_slot(n: usize, ids: &[i32], ranks: &[u8]) -> usize
     requires { Idle n ids.now × (length ranks.now ≡ records) }
     ensures { (result < records) × (result ≡ oldest_or0 ids.now ranks.now) }
 {
-    let mut i: usize = 0;
-    while i < n {
+    for i in 0..n {
         if lives(ids[i]) & (ranks[i] == 0) {
             return i;
         }
-        i += 1;
     }
     0
 }
@@ -165,14 +145,9 @@ fn marks_of(n: usize, old: &[i32], new: &[i32], ranks: &[u8]) -> [u8; RECORDS]
     ensures { Marks result (ages records (fates_by old.now new.now) ranks.now) }
 {
     let mut m = [0u8; RECORDS];
-    let mut i: usize = 0;
-    while i < n {
-        let was = old[i];
-        let is = new[i];
-        let r = wide(ranks[i]);
-        i += 1;
-        if goes_on(was, is) {
-            m[r] = 1;
+    for i in 0..n {
+        if goes_on(old[i], new[i]) {
+            m[usize::from(ranks[i])] = 1;
         }
     }
     m
@@ -182,10 +157,7 @@ fn one_more(flag: u8, n: u8) -> u8
     requires { n < 255 }
     ensures { result ≡ one_more_if (eqb flag 1) n }
 {
-    if flag == 1 {
-        return n + 1;
-    }
-    n
+    n + u8::from(flag == 1)
 }
 
 // Below each number up to RECORDS, how many flags are set.
@@ -194,10 +166,8 @@ fn sums_of(m: &[u8]) -> [u8; SUMS]
     ensures { Sums m.now result }
 {
     let mut s = [0u8; SUMS];
-    let mut j: usize = 0;
-    while j < RECORDS {
+    for j in 0..RECORDS {
         s[j + 1] = one_more(m[j], s[j]);
-        j += 1;
     }
     s
 }
@@ -210,7 +180,7 @@ fn age(was: i32, is: i32, rank: u8) -> usize
         return 0;
     }
     if common::same(was, is) {
-        return wide(rank);
+        return usize::from(rank);
     }
     BEGINNING
 }
@@ -223,11 +193,8 @@ pub fn ranks_after(n: usize, old: &[i32], new: &[i32], ranks: &[u8]) -> [u8; REC
     let m = marks_of(n, old, new, ranks);
     let below = sums_of(&m);
     let mut l = [0u8; RECORDS];
-    let mut i: usize = 0;
-    while i < n {
-        let a = age(old[i], new[i], ranks[i]);
-        l[i] = below[a];
-        i += 1;
+    for i in 0..n {
+        l[i] = below[age(old[i], new[i], ranks[i])];
     }
     l
 }
@@ -239,9 +206,8 @@ pub fn ids_stay(old: &[i32], new: &[i32], slots: u32) -> bool
 {
     let mut left = slots;
     while left != 0 {
-        let z = u32::trailing_zeros(left);
-        let s = (z % SLOTS) as usize;
-        left = left & (left - 1);
+        let s = (left.trailing_zeros() % SLOTS) as usize;
+        left &= left - 1;
         if !common::same(old[s], new[s]) {
             return false;
         }
@@ -254,32 +220,21 @@ pub fn ids_stay(old: &[i32], new: &[i32], slots: u32) -> bool
 fn touch_of(live: usize) -> u8
     ensures { result ≡ touch_of live }
 {
-    if live == 0 {
-        return 0;
-    }
-    1
+    u8::from(live != 0)
 }
 
 // The tool's code by how many contacts are live: one for each number up to four, and one for five or more.
 fn tool_of(live: usize) -> u16
     ensures { result ≡ tool_of live }
 {
-    if live == 0 {
-        return 0;
+    match live {
+        0 => 0,
+        1 => records::FINGER,
+        2 => records::DOUBLETAP,
+        3 => records::TRIPLETAP,
+        4 => records::QUADTAP,
+        _ => records::QUINTTAP,
     }
-    if live == 1 {
-        return records::FINGER;
-    }
-    if live == 2 {
-        return records::DOUBLETAP;
-    }
-    if live == 3 {
-        return records::TRIPLETAP;
-    }
-    if live == 4 {
-        return records::QUADTAP;
-    }
-    records::QUINTTAP
 }
 
 // What a display should see of so many live contacts, of which this is the oldest. While no contact is live X and Y keep still.
@@ -288,10 +243,9 @@ pub fn pointed(live: usize, oldest: Slot, told: Pointer) -> Pointer
 {
     if live == 0 {
         return Pointer {
-            x: told.x,
-            y: told.y,
             tool: 0,
             touch: 0,
+            ..told
         };
     }
     Pointer {
@@ -312,8 +266,7 @@ pub fn placed(oldest: Slot, told: Pointer) -> Pointer
     Pointer {
         x: oldest.x,
         y: oldest.y,
-        tool: told.tool,
-        touch: told.touch,
+        ..told
     }
 }
 
@@ -346,23 +299,15 @@ fn apt(setup: Setup, t: [Slot; RECORDS], ranks: [u8; RECORDS], told: Pointer) ->
 {
     let n = setup.n;
     let mut ids = [TrackingId::UNUSED; RECORDS];
-    let mut i: usize = 0;
-    while i < n {
-        let s = t[i];
-        let q = s.id;
-        let v = q.0;
-        ids[i] = v;
-        i += 1;
+    for i in 0..n {
+        ids[i] = t[i].id.0;
     }
     if !ranks_good(n, &ids, &ranks) {
         return false;
     }
     let k = oldest_slot(n, &ids, &ranks);
     let p = pointed(live_count(n, &ids), t[k], told);
-    if !pointers_same(told, p) {
-        return false;
-    }
-    (told.x <= setup.x) & (told.y <= setup.y)
+    pointers_same(told, p) && (told.x <= setup.x) & (told.y <= setup.y)
 }
 
 // Whether ranks and the numbers that were told are well formed beside a table.
@@ -395,17 +340,9 @@ fn moves(n: usize, old: [Slot; RECORDS], new: [Slot; RECORDS], slots: u32, last:
 {
     let mut was = [TrackingId::UNUSED; RECORDS];
     let mut is = [TrackingId::UNUSED; RECORDS];
-    let mut i: usize = 0;
-    while i < n {
-        let o = old[i];
-        let p = o.id;
-        let u = p.0;
-        was[i] = u;
-        let s = new[i];
-        let q = s.id;
-        let v = q.0;
-        is[i] = v;
-        i += 1;
+    for i in 0..n {
+        was[i] = old[i].id.0;
+        is[i] = new[i].id.0;
     }
     let ranks = last.ranks;
     let told = last.told;
@@ -443,10 +380,7 @@ pub fn move_on(
 fn unlike(same: bool) -> usize
     ensures { (result ≤ 1) × (result ≡ one_unless same) }
 {
-    if same {
-        return 0;
-    }
-    1
+    usize::from(!same)
 }
 
 // How many events tell a display that was told q that it is z now.
@@ -455,8 +389,10 @@ fn tells(q: Pointer, z: Pointer) -> usize
 {
     let same = q.tool == z.tool;
     unlike(q.touch == z.touch)
-        + ((unlike(same | (q.tool == 0)) + unlike(same | (z.tool == 0)))
-            + (unlike(q.x == z.x) + unlike(q.y == z.y)))
+        + unlike(same | (q.tool == 0))
+        + unlike(same | (z.tool == 0))
+        + unlike(q.x == z.x)
+        + unlike(q.y == z.y)
 }
 
 // The same by the option: off, nothing moved, and nothing is compared.

@@ -1,15 +1,15 @@
--- Laws of the recorder's loops, one byte more that is summed, tested or copied; and of its answer to a block. Cited by the proofs of its
+-- Laws of the recorder's loops, one byte more that is summed or tested; and of its answer to a block. Cited by the proofs of its
 -- functions. Assumes nothing.
 use mathlib.Core.Path.{◌≡◌, refl, sym, ap, ap₂, ◌∙◌}
 use mathlib.Core.Bool.{Bool, true, false, ◌&&◌, and_assoc}
-use mathlib.Core.List.{List, ◌++◌}
+use mathlib.Core.List.{List}
 use Prim.Native.Nat.{ℕ, suc, ◌+◌, ◌*◌, ◌≤◌, ◌<◌}
 use native.Mathlib.Numerals.{add-one}
 use native.Mathlib.Omega.{arith}
 use lib.Bits.{bit_or, or_add_and, and_le_l, and_le_r}
 use lib.Dec.{eqb}
-use lib.ListN.{length, get_or, take, drop, set, length-append, length-drop}
-use lib.Seq.{length-take-le, take-suc, drop-cons, set_at, append_snoc, slice-cons}
+use lib.ListN.{length, get_or, take}
+use lib.Seq.{length-take-le, take-suc, slice-cons}
 use borrow.Author.Tests.{eq-eqb, ne_eqb, eqb-true, eqb-false}
 use Rattle.model.specs.Pod.{zeros}
 use Rattle.model.specs.Recorder as M
@@ -44,19 +44,6 @@ clear_turn b bits i to h k =
     let x = get_or b i 0 in
     ap (λ l. eqb bits 0 && zeros l) (slice-cons i to b 0 h k)
     ∙ sym (ap₂ (λ t n. t && zeros (part n to b)) (or_zero bits x) (add-one i) ∙ and_assoc (eqb bits 0) (eqb x 0) (zeros (part (suc i) to b)))
-
--- One byte more is copied.
-pub copy_turn : (b s : List ℕ) (i : ℕ) → i < length b → i < length s
-    → set (take i s ++ drop i b) i (get_or s i 0) ≡ take (i + 1) s ++ drop (i + 1) b
-copy_turn b s i h k =
-    let x = get_or s i 0 in
-    let rest = drop (suc i) b in
-    rw (add-one i)
-    (ap (λ r. set (take i s ++ r) i x) (drop-cons b i 0 h) ∙ set_at (take i s) (get_or b i 0) rest x i (length-take-le i s (omega arith))
-    ∙ sym (append_snoc (take i s) x rest) ∙ ap (λ l. l ++ rest) (sym (take-suc s i 0 k)))
-
-pub copy_length : (b s : List ℕ) (i : ℕ) → i ≤ length s → i ≤ length b → length (take i s ++ drop i b) ≡ length b
-copy_length b s i h k = length-append (take i s) (drop i b) ∙ omega (arith, length-take-le i s h, length-drop i b)
 
 -- ---- the answer to a block
 

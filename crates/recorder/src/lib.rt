@@ -2,6 +2,8 @@
 // `make_block`, `lay_blocks` and `read_block` are the public functions; none requires anything, and what they answer is the model's.
 #![tactic(auto)]
 
+mod words;
+
 ghost use Rattle.std.specs.Prelude.{◌≡◌, ◌+◌, ◌-◌, ◌≤◌, ◌<◌, min, length};
 ghost use Rattle.model.specs.Records.{low_bytes, lay};
 ghost use Rattle.model.specs.Pod.{zeros};
@@ -52,30 +54,14 @@ pub enum BlockRead {
     NotZero,
 }
 
-fn wide(b: u8) -> u32
-    ensures { result ≡ b }
-{
-    b as u32
-}
-
-// A byte weighs its position plus one.
-fn weight(i: usize) -> u32
-    requires { i < check_place }
-    ensures { result ≡ i + 1 }
-{
-    i as u32 + 1
-}
-
-// The sum over the bytes before the check of the byte times its weight.
+// The sum over the bytes before the check. A byte weighs its position plus one.
 fn sum_of(b: &[u8]) -> u32
     requires { check_place ≤ length b.now }
     ensures { result ≡ check_of b.now }
 {
     let mut sum: u32 = 0;
-    let mut i: usize = 0;
-    while i < CHECK {
-        sum = sum + wide(b[i]) * weight(i);
-        i += 1;
+    for i in 0..CHECK {
+        sum += u32::from(b[i]) * (i as u32 + 1);
     }
     sum
 }
@@ -87,35 +73,28 @@ fn clear(b: &[u8], from: usize, to: usize) -> bool
     ensures { result ≡ zeros (part from to b.now) }
 {
     let mut bits: u8 = 0;
-    let mut i = from;
-    while i < to {
-        bits = bits | b[i];
-        i += 1;
+    for i in from..to {
+        bits |= b[i];
     }
     bits == 0
 }
 
 // The bytes s at the start of b; the others stay.
+#[tactic(auto, unfolding(records::specs::Seen::over))]
 fn copy(b: &mut [u8], s: &[u8])
     requires { length s.now ≤ length b.old }
     ensures { b.new ≡ over s.now b.old }
 {
-    let mut i: usize = 0;
-    while i < s.len() {
-        b[i] = s[i];
-        i += 1;
-    }
+    b[..s.len()].copy_from_slice(s);
 }
 
 // The four bytes of a number at the start of b, the lowest first; the others stay.
+#[tactic(auto, unfolding(records::specs::Seen::over))]
 fn put(b: &mut [u8], v: u32)
     requires { 4 ≤ length b.old }
     ensures { b.new ≡ over (low_bytes 4 v) b.old }
 {
-    b[0] = (v % 256) as u8;
-    b[1] = (v / 256 % 256) as u8;
-    b[2] = (v / 256 / 256 % 256) as u8;
-    b[3] = (v / 256 / 256 / 256 % 256) as u8;
+    b[..4].copy_from_slice(&v.to_le_bytes());
 }
 
 // The block is built whole, starting from 512 zeros. A count of 62 needs one byte of its two.
@@ -154,10 +133,9 @@ pub fn make_block(number: u32, events: &[u8]) -> BlockMade
     if events.len() % 8 != 0 {
         return not_made(Verdict::Ragged);
     }
-    let block = build(number, events);
     BlockMade {
         verdict: Verdict::Accepted,
-        block,
+        block: build(number, events),
     }
 }
 
@@ -166,10 +144,7 @@ fn run_end(from: usize, len: usize) -> usize
     requires { from ≤ len }
     ensures { result ≡ from + min full_run (len - from) }
 {
-    if len - from < FULL {
-        return len;
-    }
-    from + FULL
+    from + FULL.min(len - from)
 }
 
 // All blocks of the events, one after the other from the position `at` on.
@@ -177,14 +152,12 @@ fn put_blocks(number: u32, events: &[u8], blocks: usize, buf: &mut [u8], at: usi
     requires { Room number events.now blocks buf.old at }
     ensures { buf.new ≡ lay at (joined (recording number events.now)) buf.old }
 {
-    let mut k: usize = 0;
-    while k < blocks {
+    for k in 0..blocks {
         let from = FULL * k;
         let end = run_end(from, events.len());
         let b = build(number + (k as u32), &events[from..end]);
         let to = at + BLOCK * k;
         copy(&mut buf[to..], &b);
-        k += 1;
     }
 }
 
@@ -205,7 +178,7 @@ fn not_laid(verdict: Verdict, number: u32, need: usize) -> BlocksLaid
 pub fn lay_blocks(number: u32, events: &[u8], buf: &mut [u8], at: usize) -> BlocksLaid
     ensures { LaysAs number events.now at buf.old buf.new result }
 {
-    let blocks = (events.len() + (FULL - 1)) / FULL;
+    let blocks = events.len().div_ceil(FULL);
     if !common::between(number as usize, LAST_NUMBER) {
         return not_laid(Verdict::Value, number, 0);
     }
@@ -214,10 +187,7 @@ pub fn lay_blocks(number: u32, events: &[u8], buf: &mut [u8], at: usize) -> Bloc
         return not_laid(Verdict::Value, number, 0);
     }
     let need = BLOCK * blocks;
-    if buf.len() < at {
-        return not_laid(Verdict::NoRoom, number, need);
-    }
-    if buf.len() - at < need {
+    if buf.len() < at || buf.len() - at < need {
         return not_laid(Verdict::NoRoom, number, need);
     }
     if events.len() % 8 != 0 {
@@ -237,14 +207,14 @@ fn four_at(b: &[u8], at: usize) -> u32
     requires { at + 4 ≤ length b.now }
     ensures { result ≡ four_at at b.now }
 {
-    records::join32(b[at], b[at + 1], b[at + 2], b[at + 3])
+    u32::from_le_bytes([b[at], b[at + 1], b[at + 2], b[at + 3]])
 }
 
 fn count_of(block: &[u8]) -> usize
     requires { 6 ≤ length block.now }
     ensures { result ≡ count_in block.now }
 {
-    records::join32(block[4], block[5], 0, 0) as usize
+    u16::from_le_bytes([block[4], block[5]]) as usize
 }
 
 // The first of the four tests that fails names the refusal.

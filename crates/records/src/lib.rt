@@ -64,14 +64,14 @@ pub struct Event {
 fn join16(a: u8, b: u8) -> u16
     ensures { result ≡ joined16 a b }
 {
-    (a as u16) + 256 * (b as u16)
+    u16::from_le_bytes([a, b])
 }
 
 // Four bytes as a number, the lowest first.
 pub fn join32(a: u8, b: u8, c: u8, d: u8) -> u32
     ensures { result ≡ joined32 a b c d }
 {
-    (a as u32) + 256 * (b as u32) + 65536 * (c as u32) + 16777216 * (d as u32)
+    u32::from_le_bytes([a, b, c, d])
 }
 
 pub fn record_at(s: &[u8], at: usize) -> Event
@@ -95,20 +95,13 @@ pub fn word_at(s: &[u8], at: usize) -> u32
 pub fn bits_of(z: i32) -> u32
     ensures { result ≡ bits_of z }
 {
-    if 0 <= z {
-        return z as u32;
-    }
-    0xffff_ffff - (!z as u32)
+    z.cast_unsigned()
 }
 
-// By the complement, since no cast of 2^31 and more to an i32 is defined.
 pub fn signed_of(v: u32) -> i32
     ensures { result ≡ signed_of v }
 {
-    if v < 0x8000_0000 {
-        return v as i32;
-    }
-    !((0xffff_ffff - v) as i32)
+    v.cast_signed()
 }
 
 // A record's bytes at the start of `b`; the others stay.
@@ -116,12 +109,7 @@ pub fn put(b: &mut [u8], kind: u16, code: u16, value: u32)
     requires { 8 ≤ length b.old }
     ensures { b.new ≡ over (record_bytes kind code value) b.old }
 {
-    b[0] = (kind % 256) as u8;
-    b[1] = (kind / 256 % 256) as u8;
-    b[2] = (code % 256) as u8;
-    b[3] = (code / 256 % 256) as u8;
-    b[4] = (value % 256) as u8;
-    b[5] = (value / 256 % 256) as u8;
-    b[6] = (value / 256 / 256 % 256) as u8;
-    b[7] = (value / 256 / 256 / 256 % 256) as u8;
+    b[..2].copy_from_slice(&kind.to_le_bytes());
+    b[2..4].copy_from_slice(&code.to_le_bytes());
+    b[4..8].copy_from_slice(&value.to_le_bytes());
 }

@@ -10,14 +10,13 @@ ghost use Rattle.recorder.specs.Seen.{held_read};
 ghost use Rattle.reader.specs.States.{seen, held};
 ghost use Rattle.replay.specs.Heard.{past_last, HearsAs};
 
-use common::Counts;
+use common::Verdict;
 use ending::Tally;
-use header::Header;
+use header::Bad;
 use reader::ReaderState;
 use recorder::{BLOCK, BlockRead};
 use records::LENGTH;
-use std::io::Error;
-use stream::Out;
+use stream::{Ended, Out, Status, warn};
 
 // The last number of a block, and one that no block has.
 const LAST_NUMBER: u64 = 4294967295;
@@ -59,9 +58,8 @@ struct Heard {
 fn refused(state: ReaderState, tally: Tally, read: BlockRead) -> Heard
     ensures { (result.state ≡ held (run_call base (seen state) loss).state) × (result.read ≡ read) }
 {
-    let after = ending::lose(state);
     Heard {
-        state: after,
+        state: ending::lose(state),
         tally,
         read,
     }
@@ -71,12 +69,12 @@ fn refused(state: ReaderState, tally: Tally, read: BlockRead) -> Heard
 fn followed(state: ReaderState, tally: Tally, events: &[u8], read: BlockRead) -> Heard
     ensures { (result.state ≡ held (run_call base (seen state) events.now).state) × (result.read ≡ read) }
 {
+    let mut tally = tally;
     let a = reader::run(state, events);
-    let ran = a.state;
-    let counts: Counts = a.counts;
+    tally.add((events.len() / LENGTH) as u64, a.counts);
     Heard {
-        state: ran,
-        tally: tally.with((events.len() / LENGTH) as u64, counts),
+        state: a.state,
+        tally,
         read,
     }
 }
@@ -100,173 +98,85 @@ fn hear(state: ReaderState, tally: Tally, place: u64, piece: &[u8]) -> Heard
     }
 }
 
-fn warn_block(out: Out, place: u64, why: &[u8]) -> Out {
-    stream::warn_part(out.marked(stream::REFUSED), b"block ", place, why)
-}
-
-// The line of a refused block.
-fn warn_read(out: Out, place: u64, read: BlockRead) -> Out {
-    match read {
-        BlockRead::Events { at: _, count: _ } => out,
-        BlockRead::WrongCheck => warn_block(out, place, b" refused: wrong check\n"),
-        BlockRead::WrongNumber => warn_block(out, place, b" refused: wrong number\n"),
-        BlockRead::CountOver => warn_block(out, place, b" refused: count over 62\n"),
-        BlockRead::NotZero => warn_block(out, place, b" refused: not zero\n"),
-    }
-}
-
-fn is_refused(read: BlockRead) -> bool {
-    match read {
-        BlockRead::Events { at: _, count: _ } => false,
-        BlockRead::WrongCheck => true,
-        BlockRead::WrongNumber => true,
-        BlockRead::CountOver => true,
-        BlockRead::NotZero => true,
-    }
-}
-
-// How the reading stands: the reader, what was counted for a hint, the output; how many pieces there were, and whether one was refused; whether there is more, or a read failed.
+// How the reading stands: the reader, what was counted for a hint, how many pieces there were, and whether one was refused.
 #[derive(Clone, Copy)]
 struct Reading {
     state: ReaderState,
     tally: Tally,
-    out: Out,
     place: u64,
     refused: bool,
-    again: bool,
-    failed: Option<Error>,
 }
 
-fn take_piece(r: Reading, piece: &[u8], again: bool) -> Reading {
-    let before = r.state;
-    let counted = r.tally;
-    let out = r.out;
-    let place = std::num::wrapping_add_u64(r.place, 1);
-    let h = hear(before, counted, place, piece);
-    let state = h.state;
-    let tally = h.tally;
-    let read = h.read;
-    Reading {
-        state,
-        tally,
-        out: warn_read(out, place, read),
-        place,
-        refused: r.refused | is_refused(read),
-        again,
-        failed: None,
-    }
-}
-
-fn ended(r: Reading, failed: Option<Error>) -> Reading {
-    let state = r.state;
-    let tally = r.tally;
-    let out = r.out;
-    Reading {
-        state,
-        tally,
-        out,
-        place: r.place,
-        refused: r.refused,
-        again: false,
-        failed,
-    }
-}
-
-// A block, or what is left at the end. What a failed read cut is lost with it, and is no refusal.
-fn read_piece(r: Reading) -> Reading {
-    let out = r.out;
-    let mut block = [0u8; BLOCK];
-    let f = stream::fill(out.streams.input, &mut block);
-    if let Some(why) = f.failed {
-        return ended(r, Some(why));
-    }
-    let n = f.n;
-    if n == 0 {
-        return ended(r, None);
-    }
-    take_piece(r, &block[..n], !f.ended)
-}
-
-// A proved loop has to end, and nothing says that the input does: the turns are counted down from a number that no run uses up.
-fn read_all(begun: Reading) -> Reading {
-    let mut r = begun;
-    let mut turns = u64::MAX;
-    while turns > 0 {
-        r = read_piece(r);
-        if !r.again {
-            return r;
+impl Reading {
+    // A block, or what is left at the end, with the line of its refusal.
+    fn take_piece(&mut self, out: &mut Out, piece: &[u8]) {
+        self.place = self.place.wrapping_add(1);
+        let h = hear(self.state, self.tally, self.place, piece);
+        self.state = h.state;
+        self.tally = h.tally;
+        if !matches!(h.read, BlockRead::Events { .. }) {
+            self.refused = true;
+            out.mark(Status::Refused);
+            warn!(out, "block {} refused: {}\n", self.place, h.read);
         }
-        turns -= 1;
     }
-    r
+
+    fn take_blocks(&mut self, out: &mut Out, bytes: &[u8]) -> usize {
+        for block in bytes.chunks_exact(BLOCK) {
+            self.take_piece(out, block);
+        }
+        bytes.len() - bytes.len() % BLOCK
+    }
 }
 
 // What refused blocks mean, once for all of them.
-fn hint(out: Out, refused: bool) -> Out {
-    if !refused {
-        return out;
+fn hint(out: &mut Out, refused: bool) {
+    if refused {
+        warn!(
+            out,
+            "{}: a refused block counts as SYN_DROPPED: from there on every slot is unknown; make the recording anew, or load a full table\n",
+            out.name()
+        );
     }
-    stream::warn(
-        out,
-        b"replay: a refused block counts as SYN_DROPPED: from there on every slot is unknown; make the recording anew, or load a full table\n",
-    )
 }
 
-fn show(page: &mut [u8], r: Reading) -> Out {
-    let state = r.state;
-    let tally = r.tally;
-    let out = r.out;
-    if let Some(why) = r.failed {
-        let a = ending::warn_lost(out, b"replay", why);
-        let b = hint(a, r.refused);
-        return ending::say_end(page, b, b"replay", tally, ending::lose(state));
-    }
-    let c = hint(out, r.refused);
-    ending::say_end(page, c, b"replay", tally, state)
-}
-
-fn replay(page: &mut [u8], out: Out, state: ReaderState) -> Out {
-    let r = read_all(Reading {
+fn replay(out: &mut Out, state: ReaderState) {
+    let mut r = Reading {
         state,
-        tally: Tally::none(),
-        out,
+        tally: Tally::default(),
         place: 0,
         refused: false,
-        again: true,
-        failed: None,
-    });
-    show(page, r)
+    };
+    let mut buf = io::large_buffer();
+    match out.take_input(&mut buf, |out, bytes| r.take_blocks(out, bytes)) {
+        // What a failed read cut is lost with it, and is no refusal.
+        Ended::ReadFailed(_, why) => {
+            ending::warn_lost(out, why);
+            r.state = ending::lose(r.state);
+        }
+        Ended::Input(0) | Ended::WriteFailed => {}
+        Ended::Input(left) => r.take_piece(out, &buf[..left]),
+    }
+    hint(out, r.refused);
+    ending::say_end(out, r.tally, r.state);
 }
 
-fn after_setup(page: &mut [u8], out: Out, h: Header) -> Out {
-    if h.count < header::BYTES {
-        return header::say_refused(page, out, b"replay", h);
+fn begin(out: &mut Out) -> Result<ReaderState, Bad> {
+    let s = header::read(out)?.setup();
+    let a = ReaderState::fresh(s.n, s.x, s.y, s.pressure, s.major, s.minor);
+    match a.verdict {
+        Verdict::Accepted => Ok(a.state),
+        _ => Err(Bad::Range(s)),
     }
-    let a = ReaderState::fresh(h.n as usize, h.x, h.y, h.pressure, h.major, h.minor);
-    let v = a.verdict;
-    if v.number() != 0 {
-        return header::say_refused(page, out, b"replay", h);
-    }
-    let state = a.state;
-    replay(page, out, state)
 }
 
-fn answer(page: &mut [u8], out: Out) -> Out {
-    let h = header::read(out.streams.input);
-    if let Some(why) = h.failed {
-        let a = stream::read_failed(out, b"replay", why);
-        return after_setup(page, a, h);
+fn answer(out: &mut Out) {
+    match begin(out) {
+        Ok(state) => replay(out, state),
+        Err(bad) => header::say_refused(out, bad),
     }
-    after_setup(page, out, h)
 }
 
 fn main(rt: HostRuntime) {
-    let mut page = io::buffer();
-    let begun = stream::begin(&rt, b"replay");
-    if begun.status != stream::ACCEPTED {
-        stream::finish(&page, begun, b"replay");
-        return;
-    }
-    let out = answer(&mut page, begun);
-    stream::finish(&page, out, b"replay");
+    stream::run(&rt, "replay", answer);
 }

@@ -42,13 +42,11 @@ fn put_contact(b: &mut [u8], at: usize, old: Slot, new: Slot) -> usize
     requires { at + length (contact_bytes old new) ≤ length b.old }
     ensures { (result ≡ at + length (contact_bytes old new)) × (b.new ≡ lay at (contact_bytes old new) b.old) }
 {
-    let was = old.id;
-    let is = new.id;
     let id = Change {
         kind: records::ABS,
         code: records::TRACKING_ID,
-        old: records::bits_of(was.0),
-        new: records::bits_of(is.0),
+        old: records::bits_of(old.id.0),
+        new: records::bits_of(new.id.0),
     };
     let x = Change {
         kind: records::ABS,
@@ -106,8 +104,7 @@ pub fn put_opened(b: &mut [u8], at: usize, s: SlotNumber, old: Slot, new: Slot) 
     requires { (s.0 < records) × (at + length (bytes_sent (send_slot s.0 ∷ changes 0 (slot_of old) (slot_of new))) ≤ length b.old) }
     ensures { (result ≡ at + length (bytes_sent (send_slot s.0 ∷ changes 0 (slot_of old) (slot_of new)))) × (b.new ≡ lay at (bytes_sent (send_slot s.0 ∷ changes 0 (slot_of old) (slot_of new))) b.old) }
 {
-    let number = s.0 as u32;
-    records::put(&mut b[at..], records::ABS, records::SLOT, number);
+    records::put(&mut b[at..], records::ABS, records::SLOT, s.0 as u32);
     put_changes(b, at + records::LENGTH, old, new)
 }
 
@@ -132,15 +129,12 @@ pub fn send_slots(
     ensures { Reaches at old new others current.0 b.old result b.new }
 {
     let c = current.0;
-    let o = old[c];
-    let v = new[c];
-    let mut end = put_changes(b, at, o, v);
+    let mut end = put_changes(b, at, old[c], new[c]);
     let mut m = others;
     let mut last = c;
     while m != 0 {
-        let z = u32::trailing_zeros(m);
-        let s = (z % SLOTS) as usize;
-        m = m & (m - 1);
+        let s = (m.trailing_zeros() % SLOTS) as usize;
+        m &= m - 1;
         last = s;
         end = put_opened(b, end, SlotNumber(s), old[s], new[s]);
     }
@@ -160,8 +154,8 @@ pub fn send_touch(b: &mut [u8], at: usize, q: Pointer, z: Pointer) -> usize
     let touch = Change {
         kind: records::KEY,
         code: records::TOUCH,
-        old: q.touch as u32,
-        new: z.touch as u32,
+        old: u32::from(q.touch),
+        new: u32::from(z.touch),
     };
     put_number(b, at, touch)
 }
@@ -169,19 +163,13 @@ pub fn send_touch(b: &mut [u8], at: usize, q: Pointer, z: Pointer) -> usize
 fn zero_if(same: bool) -> u32
     ensures { result ≡ one_unless same }
 {
-    if same {
-        return 0;
-    }
-    1
+    u32::from(!same)
 }
 
 fn one_if(same: bool) -> u32
     ensures { result ≡ one_if same }
 {
-    if same {
-        return 1;
-    }
-    0
+    u32::from(same)
 }
 
 // The old tool is 0 now, and then the new one is 1; code 0 is no tool.

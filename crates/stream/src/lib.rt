@@ -1,299 +1,193 @@
-// Standard streams for the programs: input into a buffer, output collected on a page, words on standard error, and the status that a program ends with.
+// Standard streams for the programs: input in pieces, output collected on a page, words on standard error, and the status that a program ends with.
 // docs/PROGRAMS.md has what a user sees of it.
 #![tactic(auto)]
 
-mod status;
-
-ghost use Rattle.std.specs.Prelude.{false, None, ◌≡◌, ◌<◌, length};
-ghost use Rattle.io.specs.Counts.{IsPrefixLen};
-
-pub use status::{Begun, begin, begin_with, finish};
-use std::io::{Cursor, Error, Read, Stderr, Stdin, Stdout, Write};
-use std::rt::Env;
-
-#[derive(Clone, Copy)]
-pub struct Streams {
-    pub input: Stdin,
-    pub output: Stdout,
-    pub errors: Stderr,
+#[macro_export]
+macro_rules! say {
+    ($out:expr, $($what:tt)*) => {
+        $out.say(format_args!($($what)*))
+    };
 }
 
-// What a program's main hands on: the arguments and the three standard streams.
-pub trait System: Env {
-    fn streams(&self) -> Streams;
+#[macro_export]
+macro_rules! warn {
+    ($out:expr, $($what:tt)*) => {
+        $out.warn(format_args!($($what)*))
+    };
 }
 
-impl System for HostRuntime {
-    fn streams(&self) -> Streams {
-        Streams {
-            input: self.stdin(),
-            output: self.stdout(),
-            errors: self.stderr(),
-        }
-    }
-}
+mod cause;
+mod input;
+mod program;
 
-// How many bytes a read put at the start of the buffer, and why it stopped if there are no more.
-#[derive(Clone, Copy)]
-pub struct Filled {
-    pub n: usize,
-    pub ended: bool,
-    pub failed: Option<Error>,
-}
+ghost use Rattle.std.specs.Prelude.{◌≡◌, ◌<◌, ◌≤◌};
 
-// Fills a buffer until it is full, the input ends or a read fails. io::read_full does not tell the last two apart, and a failed read is a loss.
-pub fn fill(input: Stdin, buf: &mut [u8]) -> Filled
-    ensures prefix_len { IsPrefixLen result.n buf.new }
-    ensures n_value { result.ended ≡ false → result.failed ≡ None → result.n ≡ length buf.new }
-{
-    let mut done: usize = 0;
-    while done < buf.len() {
-        let more = some(input, &mut buf[done..]);
-        if more.n == 0 {
-            return Filled { n: done, ..more };
-        }
-        done += more.n;
-    }
-    Filled {
-        n: done,
-        ended: false,
-        failed: None,
-    }
-}
-
-// One read: what is there, so that it can be answered before more is waited for. Nothing is there where the input ended or the read failed.
-pub fn some(input: Stdin, buf: &mut [u8]) -> Filled
-    ensures prefix_len { IsPrefixLen result.n buf.new }
-    ensures some { result.ended ≡ false → result.failed ≡ None → 0 < result.n }
-{
-    let mut from = input;
-    match from.read(buf) {
-        Err(why) => Filled {
-            n: 0,
-            ended: false,
-            failed: Some(why),
-        },
-        Ok(n) => Filled {
-            n,
-            ended: n == 0,
-            failed: None,
-        },
-    }
-}
+use cause::Cause;
+use common::Verdict;
+pub use input::{Ended, Filled, Stop};
+pub use program::{System, run, run_with};
+use std::fmt;
+use std::fmt::{Display, Formatter, InlineText, Write as _};
+use std::io::{Error, Print, Stderr, Stdin, Stdout};
 
 // What a program ends with; the higher one counts.
-pub const ACCEPTED: u8 = 0;
+#[derive(Clone, Copy, Debug, PartialEq, Eq, PartialOrd, Ord)]
+pub enum Status {
+    Accepted,
+    Refused,
+    Failed,
+}
 
-pub const REFUSED: u8 = 1;
+// The bytes of the page, and the most of a program's name.
+const PAGE: usize = 65536;
 
-pub const FAILED: u8 = 2;
+const NAME: usize = 24;
 
-// How many bytes at the start of a page are not written yet; whether a write failed, after which no other is made, and the system's number for why; the status so far, and the descriptor that it goes to, or -1.
-// An io::Error is too long for what is passed with each byte.
+// A program's name: text of its own, since an output that lent it could not be lent itself.
 #[derive(Clone, Copy)]
+pub struct Name(InlineText<NAME>);
+
+impl Display for Name {
+    fn fmt<W: fmt::Write>(&self, f: &mut Formatter<W>) -> fmt::Result {
+        f.write(self.0.as_str())
+    }
+}
+
+// A program's streams: the page, of which the first `held` bytes are not written yet; why a write failed, after which no other is made; the status so far, and the descriptor that it goes to; the program's name.
+#[derive(Drop)]
 pub struct Out {
-    pub held: usize,
-    pub broken: bool,
-    pub code: i32,
-    pub status: u8,
-    pub status_fd: i32,
-    pub streams: Streams,
+    page: [u8; PAGE],
+    held: usize,
+    failed: Option<Error>,
+    status: Status,
+    status_fd: Option<i32>,
+    name: Name,
+    input: Option<Stdin>,
+    output: Stdout,
+    errors: Stderr,
+    ghost fits: { held ≤ 65536 },
 }
 
 impl Out {
     // Something was refused, or a stream failed.
-    pub fn marked(self, status: u8) -> Out {
-        if self.status < status {
-            return Out { status, ..self };
+    pub fn mark(&mut self, status: Status) {
+        self.status = self.status.max(status);
+    }
+
+    // Whether a write failed: nothing more can be written, since there is a hole.
+    pub fn is_broken(&self) -> bool {
+        self.failed.is_some()
+    }
+
+    // Writes what is held. What comes after a hole is worse than nothing, so a failed write is the last.
+    pub fn flush(&mut self)
+        ensures { self.new.held ≡ 0 }
+    {
+        if !self.is_broken()
+            && let Err(why) = self.output.write_all(&self.page[..self.held])
+        {
+            self.failed = Some(why);
+            self.mark(Status::Failed);
         }
-        self
+        self.held = 0;
     }
 
-    // Nothing more can be written: there is a hole.
-    pub fn spoiled(self) -> Out {
-        Out {
-            held: 0,
-            broken: true,
-            status: FAILED,
-            ..self
-        }
-    }
-}
-
-// A count of a buffer's bytes, as far as the buffer has them.
-pub fn within(count: usize, buf: &[u8]) -> usize
-    ensures { IsPrefixLen result buf.now }
-{
-    if count > buf.len() {
-        return 0;
-    }
-    count
-}
-
-// Moves `count` bytes from the place `from` on to the front of a buffer, before a read behind them; how many there are now: none where the buffer has not so many.
-pub fn keep(buf: &mut [u8], from: usize, count: usize) -> usize {
-    if from > buf.len() {
-        return 0;
-    }
-    if count > buf.len() - from {
-        return 0;
-    }
-    let mut i: usize = 0;
-    while i < count {
-        buf[i] = buf[from + i];
-        i += 1;
-    }
-    count
-}
-
-// Writes what is held. What comes after a hole is worse than nothing, so a failed write is the last.
-pub fn flush(page: &[u8], out: Out) -> Out {
-    if out.broken {
-        return out;
-    }
-    let n = within(out.held, page);
-    let output = out.streams.output;
-    match output.write_all(&page[..n]) {
-        Ok(()) => Out { held: 0, ..out },
-        Err(why) => Out {
-            code: code_of(why),
-            ..out.spoiled()
-        },
-    }
-}
-
-// The system's number for an error: 0, its number for none, where the error is not the system's.
-fn code_of(why: Error) -> i32 {
-    why.raw_os_error().unwrap_or(0)
-}
-
-// A full page is written before the next byte.
-fn roomy(page: &[u8], out: Out) -> Out {
-    if out.held < page.len() {
-        return out;
-    }
-    flush(page, out)
-}
-
-fn put(page: &mut [u8], out: Out, b: u8) -> Out {
-    let o = roomy(page, out);
-    let held = o.held;
-    if held < page.len() {
-        page[held] = b;
-        return Out {
-            held: held + 1,
-            ..o
-        };
-    }
-    // A page of no bytes holds none.
-    o.spoiled()
-}
-
-pub fn say(page: &mut [u8], out: Out, text: &[u8]) -> Out {
-    let mut o = out;
-    let mut i: usize = 0;
-    while i < text.len() {
-        o = put(page, o, text[i]);
-        i += 1;
-    }
-    o
-}
-
-pub fn say_number(page: &mut [u8], out: Out, n: u64) -> Out {
-    let mut digits = [0u8; 20];
-    let k = io::decimal(n, &mut digits);
-    say(page, out, &digits[..k])
-}
-
-// A number without its sign.
-fn size(v: i32) -> u64 {
-    if v < 0 {
-        return common::nat_of(!v) as u64 + 1;
-    }
-    common::nat_of(v) as u64
-}
-
-pub fn say_signed(page: &mut [u8], out: Out, v: i32) -> Out {
-    if v < 0 {
-        let o = say(page, out, b"-");
-        return say_number(page, o, size(v));
-    }
-    say_number(page, out, size(v))
-}
-
-// The one line of a refusal.
-pub fn say_refused(page: &mut [u8], out: Out, verdict: common::Verdict) -> Out {
-    let o = say(page, out.marked(REFUSED), b"refused ");
-    let p = say_number(page, o, verdict.number() as u64);
-    say(page, p, b"\n")
-}
-
-// Words on standard error, at once. That they could not be said is a failed stream.
-pub fn warn(out: Out, text: &[u8]) -> Out {
-    let errors = out.streams.errors;
-    match errors.write_all(text) {
-        Ok(()) => out,
-        Err(_) => out.marked(FAILED),
-    }
-}
-
-pub fn warn_number(out: Out, n: u64) -> Out {
-    let mut digits = [0u8; 20];
-    let k = io::decimal(n, &mut digits);
-    warn(out, &digits[..k])
-}
-
-// A number with the words around it.
-pub fn warn_part(out: Out, before: &[u8], v: u64, after: &[u8]) -> Out {
-    let a = warn(out, before);
-    let b = warn_number(a, v);
-    warn(b, after)
-}
-
-// A number that is not 1 to the most, said in a line after the program's name.
-pub fn warn_range(out: Out, name: &[u8], what: &[u8], v: u32, most: u64) -> Out {
-    if 0 < v {
-        if v as u64 <= most {
-            return out;
+    // A full page is written before the next byte.
+    fn make_room(&mut self)
+        ensures { self.new.held < 65536 }
+    {
+        if self.held == PAGE {
+            self.flush();
         }
     }
-    let a = warn(out, name);
-    let b = warn_part(a, what, v as u64, b", and must be 1 to ");
-    warn_part(b, b"", most, b"\n")
-}
 
-pub fn warn_refused(out: Out, verdict: common::Verdict) -> Out {
-    let o = warn(out.marked(REFUSED), b"refused ");
-    let p = warn_number(o, verdict.number() as u64);
-    warn(p, b"\n")
-}
-
-// Where the system's words end: std puts its number for the error behind them.
-fn words_end(text: &[u8]) -> usize
-    ensures { IsPrefixLen result text.now }
-{
-    for i in 0..text.len() {
-        if text[i..].starts_with(b" (os error ") {
-            return i;
+    // Bytes, as they are.
+    pub fn put(&mut self, bytes: &[u8]) {
+        let mut rest = bytes;
+        while !rest.is_empty() {
+            self.make_room();
+            let n = rest.len().min(PAGE - self.held);
+            self.page[self.held..self.held + n].copy_from_slice(&rest[..n]);
+            self.held += n;
+            rest = &rest[n..];
         }
     }
-    text.len()
+
+    // Bytes that the caller writes at the start of the page's rest, which has room for `least` of them; it answers how many it wrote. After a failed write it is not asked.
+    pub fn put_with<F: FnOnce(&mut [u8]) -> usize>(&mut self, least: usize, write: F)
+        requires { F.IsAlwaysCallable write }
+    {
+        if PAGE - self.held < least {
+            self.flush();
+        }
+        if self.is_broken() {
+            return;
+        }
+        let rest = &mut self.page[self.held..];
+        let room = rest.len();
+        self.held += write(rest).min(room);
+    }
+
+    // Words, whatever can be shown. A failed write is kept, so there is nothing to answer.
+    pub fn say<D: Display + Drop>(&mut self, what: D) {
+        let _ = self.write(what);
+    }
+
+    // The one line of a refusal.
+    pub fn say_refused(&mut self, verdict: Verdict) {
+        self.mark(Status::Refused);
+        say!(self, "refused {verdict}\n");
+    }
+
+    // Words on standard error, at once. That they could not be said is a failed stream.
+    pub fn warn<D: Display + Drop>(&mut self, what: D) {
+        if self.errors.print(what).is_err() {
+            self.mark(Status::Failed);
+        }
+    }
+
+    // The same for bytes that need not be text.
+    pub fn warn_bytes(&mut self, bytes: &[u8]) {
+        if self.errors.write_all(bytes).is_err() {
+            self.mark(Status::Failed);
+        }
+    }
+
+    // The program's name, which begins a line on standard error.
+    pub fn name(&self) -> Name {
+        self.name
+    }
+
+    // A number that is not 1 to the most, in a line of its own.
+    pub fn warn_range(&mut self, what: &str, v: u64, most: u64) {
+        if v < 1 || v > most {
+            let name = self.name;
+            warn!(self, "{name}: {what} is {v}, and must be 1 to {most}\n");
+        }
+    }
+
+    // The one line of a refusal, where standard output has data.
+    pub fn warn_refused(&mut self, verdict: Verdict) {
+        self.mark(Status::Refused);
+        warn!(self, "refused {verdict}\n");
+    }
+
+    // What failed and the system's words for why, in a line after the program's name.
+    fn warn_why(&mut self, what: &str, why: Error) {
+        let name = self.name;
+        warn!(self, "{name}: {what}: {}\n", Cause(why));
+    }
+
+    // A failed read, said with the system's words for it.
+    pub fn read_failed(&mut self, why: Error) {
+        self.mark(Status::Failed);
+        self.warn_why("a read from standard input failed", why);
+    }
 }
 
-// An error in the system's words, to the end of the line. A buffer of 128 bytes holds all that it has for an error.
-fn warn_why(out: Out, why: Error) -> Out {
-    let mut to = Cursor::new([0u8; 128]);
-    let _ = write!(to, "{why}");
-    let text = to.into_inner();
-    let n = words_end(&text);
-    let a = warn(out, b": ");
-    let b = warn(a, &text[..n]);
-    warn(b, b"\n")
-}
-
-// A failed read, said with the system's words for it.
-pub fn read_failed(out: Out, name: &[u8], why: Error) -> Out {
-    let a = warn(out.marked(FAILED), name);
-    let b = warn(a, b": a read from standard input failed");
-    warn_why(b, why)
+impl fmt::Write for Out {
+    fn write_str(&mut self, text: &str) -> fmt::Result {
+        self.put(text.as_bytes());
+        Ok(())
+    }
 }

@@ -16,31 +16,24 @@ use panel::Slot;
 fn unlike(a: u32, b: u32) -> u32
     ensures { (result ≤ 1) × (result ≡ one_unless (eqb a b)) }
 {
-    if a == b {
-        return 0;
-    }
-    1
+    u32::from(a != b)
 }
 
 fn unlike_id(a: TrackingId, b: TrackingId) -> u32
     ensures { (result ≤ 1) × (result ≡ one_unless (eq_z a.0 b.0)) }
 {
-    if common::same(a.0, b.0) {
-        return 0;
-    }
-    1
+    u32::from(!common::same(a.0, b.0))
 }
 
 pub fn differ(a: Slot, b: Slot) -> u32
     ensures { (result ≤ per_slot) × (result ≡ changed_in (slot_of a) (slot_of b)) }
 {
-    let i = a.id;
-    let j = b.id;
-    unlike_id(i, j)
-        + (unlike(a.x, b.x)
-            + (unlike(a.y, b.y)
-                + (unlike(a.pressure, b.pressure)
-                    + (unlike(a.major, b.major) + unlike(a.minor, b.minor)))))
+    unlike_id(a.id, b.id)
+        + unlike(a.x, b.x)
+        + unlike(a.y, b.y)
+        + unlike(a.pressure, b.pressure)
+        + unlike(a.major, b.major)
+        + unlike(a.minor, b.minor)
 }
 
 fn some(d: u32) -> u32
@@ -102,7 +95,7 @@ pub fn without_current(mask: u32, current: SlotNumber) -> u32
 fn ones(mask: u32) -> u32
     ensures { (result ≤ records) × (result ≡ ones_of mask) }
 {
-    u32::count_ones(mask)
+    mask.count_ones()
 }
 
 // The number of events: one for each changed number and each slot that is opened, and the report.

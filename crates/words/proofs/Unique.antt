@@ -3,5 +3,5 @@ use Rattle.model.specs.Unique.{Gives}
 use Rattle.pod.specs.Seen.{state_after}
 use Rattle.words.proofs.feed.Reads as feed
 
-pub feed_state : Gives feed.Learnt (λ κs r. r.state) (λ κs a. state_after a.1.1.0 a.1.1.1.0.now)
+pub feed_state : Gives feed.Learnt (λ κs r. r) (λ κs a. state_after a.1.0 a.1.1.0.now)
 feed_state κs a r s e = e

@@ -1,2 +1,2 @@
--- The sizes that the program's requirements and promises cite.
+-- The size that the program's promises cite.
 pub mod Room

@@ -1,10 +1,6 @@
--- The sizes that the program's requirements and promises cite: of a frame that is held, and of the buffer. Assumes nothing.
+-- The most bytes of a frame that are held until it is whole, which the program's promises cite. Assumes nothing.
 use Rattle.std.specs.Prelude.{ℕ}
 
 -- The bytes of 4,096 records.
 abbrev pub longest : ℕ
 longest = 32_768
-
--- The bytes of `io::large_buffer`.
-abbrev pub room : ℕ
-room = 65_536

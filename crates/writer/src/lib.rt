@@ -68,12 +68,9 @@ impl Own {
     fn with(self, last: SlotNumber) -> Own
         ensures { result ≡ with_last self last }
     {
-        let setup = self.setup;
         Own {
-            setup,
             current: last,
-            counter: self.counter,
-            pointer: self.pointer,
+            ..self
         }
     }
 }
@@ -92,17 +89,15 @@ fn own_of(setup: Setup, current: SlotNumber, counter: u32, pointer: bool) -> Own
 fn state_of(table: [Slot; RECORDS], moved: Moved, own: Own) -> WriterState
     ensures { result ≡ made_of table moved own }
 {
+    // An array that is a field goes through a variable, here and below: the kit's borrow checker asks for it.
     let ranks = moved.ranks;
-    let told = moved.told;
-    let setup = own.setup;
-    let current = own.current;
     WriterState {
         table,
         ranks,
-        setup,
-        current,
+        setup: own.setup,
+        current: own.current,
         counter: own.counter,
-        told,
+        told: moved.told,
         pointer: own.pointer,
     }
 }
@@ -156,16 +151,13 @@ pub fn state_ok(s: WriterState) -> bool
     if !panel::table_good(setup, table) {
         return false;
     }
-    let current = s.current;
-    if setup.n <= current.0 {
+    if setup.n <= s.current.0 {
         return false;
     }
     if TrackingId::COUNT <= s.counter {
         return false;
     }
-    let ranks = s.ranks;
-    let told = s.told;
-    pointer::pointing_ok(s.pointer, setup, table, ranks, told)
+    pointer::pointing_ok(s.pointer, setup, table, s.ranks, s.told)
 }
 
 pub fn refused(verdict: Verdict, state: WriterState, need: usize) -> Written
@@ -196,10 +188,7 @@ fn taken(table: [Slot; RECORDS], moved: Moved, own: Own, count: usize, changed: 
 fn has_room(size: usize, at: usize, need: usize) -> bool
     ensures { result ≡ room_for need at size }
 {
-    if size < at {
-        return false;
-    }
-    need <= size - at
+    at <= size && need <= size - at
 }
 
 // The answer to a frame that leaves every slot as it is. It needs no bytes, and yet a position past the end is refused.
@@ -223,8 +212,10 @@ fn last_of(state: WriterState) -> Moved
     ensures { result ≡ last_of state }
 {
     let ranks = state.ranks;
-    let told = state.told;
-    Moved { ranks, told }
+    Moved {
+        ranks,
+        told: state.told,
+    }
 }
 
 // Writes a frame's events into `buf` from the position `at` on; refusals 2 to 5 in rising number.
@@ -252,9 +243,8 @@ pub fn write(state: WriterState, frame: &[i32], buf: &mut [u8], at: usize) -> Wr
     let told = state.told;
     let moved = pointer::move_on(state.pointer, setup.n, old, new, c.slots, last_of(state));
     let tell = moved.told;
-    let current = state.current;
-    let own = own_of(setup, current, p.counter, state.pointer);
-    let others = tally::without_current(c.slots, current);
+    let own = own_of(setup, state.current, p.counter, state.pointer);
+    let others = tally::without_current(c.slots, state.current);
     let events = tally::event_count(c.numbers, others)
         + pointer::emulated(state.pointer, told, tell);
     let need = 8 * events;
@@ -266,8 +256,7 @@ pub fn write(state: WriterState, frame: &[i32], buf: &mut [u8], at: usize) -> Wr
     }
     let start = send::send_touch(buf, at, told, tell);
     let was = state.table;
-    let sent = send::send_slots(buf, start, was, new, others, current);
+    let sent = send::send_slots(buf, start, was, new, others, state.current);
     send::send_end(buf, sent.end, told, tell);
-    let last = sent.last;
-    taken(new, moved, own.with(last), events, c.slots)
+    taken(new, moved, own.with(sent.last), events, c.slots)
 }

@@ -11,7 +11,7 @@ use Rattle.model.specs.Pairing.{points}
 use Rattle.model.specs.Anonymous.{contact_point}
 use Rattle.panel.specs.Seen.{slot_of, table_of}
 use Rattle.panel.proofs.Tables.{unmapped}
-use Rattle.pairing.specs.Cells.{Near, Numbers}
+use Rattle.pairing.specs.Cells.{Numbers}
 use Rattle.anonymous.specs.Held.{OldsOf, contacts_in, Judged}
 use Rattle.anonymous.proofs.Places.{paired_numbers, numbers_are}
 use Rattle.anonymous.proofs.numbers_at.Goals.{After-plain-ny, Start}
@@ -29,34 +29,25 @@ news-are p = ap₂ (λ x y. points p.args.p.count 0 x y) p.plain-nx.ensures p.pl
 full : (s : Start) → length s.args.t ≡ records
 full s = search (rules, unmapped)
 
-pub pair_up-pairing-requires : goal.pair_up-pairing-requires
-pair_up-pairing-requires c =
-    let p = c in (
-      (olds (goal.at.pair_up-pairing-requires p).After-plain-ny).few,
-      (news (goal.at.pair_up-pairing-requires p).After-plain-ny).few,
-      (olds (goal.at.pair_up-pairing-requires p).After-plain-ny).near_x,
-      (olds (goal.at.pair_up-pairing-requires p).After-plain-ny).near_y,
-      subst (λ l. Near l) (sym p.plain-nx.ensures) (news (goal.at.pair_up-pairing-requires p).After-plain-ny).near_x,
-      subst (λ l. Near l) (sym p.plain-ny.ensures) (news (goal.at.pair_up-pairing-requires p).After-plain-ny).near_y,
-    )
-
 pub place-requires : goal.place-requires
 place-requires c =
+    let at = goal.at.place-requires c in
     let u = c in
     let p = u in
     let t = p.args.t in
     let o = p.olds_of-o.result in (
-      ap length (olds (goal.at.place-requires p).After-plain-ny).live ∙ length-map (table_of t) (λ s. live (id_of s)) ∙ length-map t slot_of ∙ full (goal.at.place-requires p).Start,
+      ap length (olds at.After-plain-ny).live ∙ length-map (table_of t) (λ s. live (id_of s)) ∙ length-map t slot_of ∙ full at.Start,
       search rules,
       subst (λ l. Numbers l) (sym u.pair_up-pairing.ensures)
-          (paired_numbers p.args.p.count (records - o.count) p.plain-nx.result p.plain-ny.result (points o.count 0 o.x o.y) (news (goal.at.place-requires p).After-plain-ny).few),
-      omega (arith, (news (goal.at.place-requires p).After-plain-ny).few),
+          (paired_numbers p.args.p.count (records - o.count) p.plain-nx.result p.plain-ny.result (points o.count 0 o.x o.y) (news at.After-plain-ny).few),
+      omega (arith, (news at.After-plain-ny).few),
     )
 
 pub returns : goal.returns
 returns c =
+    let here = (goal.at.returns c).After-plain-ny in
     let u = c in
     let p = u in
     c.place.ensures
-    ∙ numbers_are p.args.t p.args.p p.olds_of-o.result p.plain-nx.result p.plain-ny.result u.pair_up-pairing.result (olds (goal.at.returns p).After-plain-ny) (news (goal.at.returns p).After-plain-ny) (news-are (goal.at.returns p).After-plain-ny)
+    ∙ numbers_are p.args.t p.args.p p.olds_of-o.result p.plain-nx.result p.plain-ny.result u.pair_up-pairing.result (olds here) (news here) (news-are here)
     u.pair_up-pairing.ensures

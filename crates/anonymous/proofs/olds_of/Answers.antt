@@ -15,7 +15,7 @@ use Rattle.panel.specs.declared.Slot.{Slot}
 use Rattle.panel.specs.Seen.{blank}
 use Rattle.panel.proofs.Tables.{unmapped}
 use Rattle.anonymous.proofs.Gathered.{gathers, gathers_none, gathers_one, gathered_all}
-use Rattle.anonymous.proofs.olds_of.Goals.{After-same-lives}
+use Rattle.anonymous.proofs.olds_of.Goals.{After-same-lives, then-lives, else-lives}
 use Rattle.anonymous.proofs.olds_of.Goals as goal
 
 abbrev table : After-same-lives → List Slot
@@ -38,16 +38,15 @@ lives p =
 pub loop-s-init : goal.loop-s-init
 loop-s-init c = gathers c.args.t
 
-pub loop-s-preserved-then-lives : goal.loop-s-preserved-then-lives
-loop-s-preserved-then-lives c =
-    let p = c in
-    let near = p.requires p.loop-s.s in
-    gathers_one p.loop-s.invariant (full (goal.at.loop-s-preserved-then-lives p).After-same-lives) (inside (goal.at.loop-s-preserved-then-lives p).After-same-lives) (not p.same-lives.result) (lives (goal.at.loop-s-preserved-then-lives p).After-same-lives) (ap not c.if-lives.true) near.0 near.1
-
 pub loop-s-preserved : goal.loop-s-preserved
 loop-s-preserved c =
-    let p = c in
-    gathers_none p.loop-s.invariant (full (goal.at.loop-s-preserved p).After-same-lives) (inside (goal.at.loop-s-preserved p).After-same-lives) (not p.same-lives.result) (lives (goal.at.loop-s-preserved p).After-same-lives) (ap not c.if-lives.false)
+    let l = c.loop-s in
+    let here = (goal.at.loop-s-preserved c).After-same-lives in
+    let near = c.requires l.s in
+    elim c.if-lives.branch [
+      | then-lives w ↦ rw (w.x-is, w.y-is, w.count-is) (gathers_one l.invariant (full here) (inside here) (not c.same-lives.result) (lives here) (ap not w.if-lives.true) near.0 near.1)
+      | else-lives w ↦ rw (w.x-is, w.y-is, w.count-is) (gathers_none l.invariant (full here) (inside here) (not c.same-lives.result) (lives here) (ap not w.if-lives.false))
+    ]
 
 pub returns : goal.returns
 returns c = gathered_all c.loop-s.invariant (search (rules, unmapped)) c.loop-s-test.false

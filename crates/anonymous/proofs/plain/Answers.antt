@@ -30,9 +30,9 @@ pub returns : goal.returns
 returns c =
     let p = c in
     let l = p.args.a in
-    let e₀ = own (get_or l 0 (pos 0)) (search rules) p.nat_of-b.ensures in
-    let e₁ = own (get_or l 1 (pos 0)) (search rules) c.nat_of-c.ensures in
-    let e₂ = own (get_or l 2 (pos 0)) (search rules) c.nat_of-d.ensures in
-    let e₃ = own (get_or l 3 (pos 0)) (search rules) c.nat_of-e.ensures in
-    let e₄ = own (get_or l 4 (pos 0)) (search rules) c.nat_of-f.ensures in
+    let e₀ = own (get_or l 0 (pos 0)) (search rules) p.nat_of.ensures in
+    let e₁ = own (get_or l 1 (pos 0)) (search rules) c.nat_of-2.ensures in
+    let e₂ = own (get_or l 2 (pos 0)) (search rules) c.nat_of-3.ensures in
+    let e₃ = own (get_or l 3 (pos 0)) (search rules) c.nat_of-4.ensures in
+    let e₄ = own (get_or l 4 (pos 0)) (search rules) c.nat_of-5.ensures in
     (λ i. e₀ i ∷ e₁ i ∷ e₂ i ∷ e₃ i ∷ e₄ i ∷ []) ∙ five l (search rules)

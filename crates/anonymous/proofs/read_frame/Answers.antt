@@ -105,32 +105,36 @@ values-good a = sym (values-are-at-Else-not-values_ok a) ∙ a.if-not-values_ok.
 
 pub returns-then-bytes-ne0 : goal.returns-then-bytes-ne0
 returns-then-bytes-ne0 c =
+    let here = (goal.at.returns-then-bytes-ne0 c).Start in
     let s = c in
     let z = ne_eqb (length s.args.bytes.now % 8) 0 c.if-bytes-ne0.true in
-    answers (goal.at.returns-then-bytes-ne0 s).Start C.ragged c.unframed.result (records_by (panel_seen s.args.setup) s.args.bytes.now false (few_enough (panel_seen s.args.setup) (contacts (goal.at.returns-then-bytes-ne0 s).Start)) (packets_of (events_of s.args.bytes.now)).sound (contacts_good (panel_seen s.args.setup) (contacts (goal.at.returns-then-bytes-ne0 s).Start)) z refl refl refl) c.unframed.ensures
+    answers here C.ragged c.unframed.result (records_by (panel_seen s.args.setup) s.args.bytes.now false (few_enough (panel_seen s.args.setup) (contacts here)) (packets_of (events_of s.args.bytes.now)).sound (contacts_good (panel_seen s.args.setup) (contacts here)) z refl refl refl) c.unframed.ensures
 
 pub returns-then-p-gt-MOST : goal.returns-then-p-gt-MOST
 returns-then-p-gt-MOST c =
+    let at = goal.at.returns-then-p-gt-MOST c in
     let r = c in
     let s = r in
-    let f = past_five (panel_seen s.args.setup) (contacts (goal.at.returns-then-p-gt-MOST s).Start) (omega (arith, counted (goal.at.returns-then-p-gt-MOST r).After-read_packets-p, c.if-p-gt-MOST.true)) in
-    answers (goal.at.returns-then-p-gt-MOST s).Start C.too_many c.unframed-then-p-gt-MOST.result (records_by (panel_seen s.args.setup) s.args.bytes.now true false (packets_of (events_of s.args.bytes.now)).sound (contacts_good (panel_seen s.args.setup) (contacts (goal.at.returns-then-p-gt-MOST s).Start)) (whole (goal.at.returns-then-p-gt-MOST r).Else-bytes-ne0) f refl refl) c.unframed-then-p-gt-MOST.ensures
+    let f = past_five (panel_seen s.args.setup) (contacts at.Start) (omega (arith, counted at.After-read_packets-p, c.if-p-gt-MOST.true)) in
+    answers at.Start C.too_many c.unframed-then-p-gt-MOST.result (records_by (panel_seen s.args.setup) s.args.bytes.now true false (packets_of (events_of s.args.bytes.now)).sound (contacts_good (panel_seen s.args.setup) (contacts at.Start)) (whole at.Else-bytes-ne0) f refl refl) c.unframed-then-p-gt-MOST.ensures
 
 pub returns-then-setup-p : goal.returns-then-setup-p
 returns-then-setup-p c =
+    let at = goal.at.returns-then-setup-p c in
     let most = c in
     let r = most in
     let s = r in
-    let f = past-slots (panel_seen s.args.setup) (contacts (goal.at.returns-then-setup-p s).Start) (omega (arith, counted (goal.at.returns-then-setup-p r).After-read_packets-p, most.if-p-gt-MOST.false)) (omega (arith, counted (goal.at.returns-then-setup-p r).After-read_packets-p, c.if-setup-p.true)) in
-    answers (goal.at.returns-then-setup-p s).Start C.too_many c.unframed-then-setup-p.result (records_by (panel_seen s.args.setup) s.args.bytes.now true false (packets_of (events_of s.args.bytes.now)).sound (contacts_good (panel_seen s.args.setup) (contacts (goal.at.returns-then-setup-p s).Start)) (whole (goal.at.returns-then-setup-p r).Else-bytes-ne0) f refl refl) c.unframed-then-setup-p.ensures
+    let f = past-slots (panel_seen s.args.setup) (contacts at.Start) (omega (arith, counted at.After-read_packets-p, most.if-p-gt-MOST.false)) (omega (arith, counted at.After-read_packets-p, c.if-setup-p.true)) in
+    answers at.Start C.too_many c.unframed-then-setup-p.result (records_by (panel_seen s.args.setup) s.args.bytes.now true false (packets_of (events_of s.args.bytes.now)).sound (contacts_good (panel_seen s.args.setup) (contacts at.Start)) (whole at.Else-bytes-ne0) f refl refl) c.unframed-then-setup-p.ensures
 
 pub returns-then-not-p : goal.returns-then-not-p
 returns-then-not-p c =
+    let at = goal.at.returns-then-not-p c in
     let f = c in
     let r = f in
     let s = r in
-    let d = sym (sound-is (goal.at.returns-then-not-p r).After-read_packets-p) ∙ not-true r.read_packets-p.result.sound c.if-not-p.true in
-    answers (goal.at.returns-then-not-p s).Start C.unfinished c.unframed-then-not-p.result (records_by (panel_seen s.args.setup) s.args.bytes.now true true false (contacts_good (panel_seen s.args.setup) (contacts (goal.at.returns-then-not-p s).Start)) (whole (goal.at.returns-then-not-p r).Else-bytes-ne0) (enough (goal.at.returns-then-not-p f).Else-setup-p) d refl) c.unframed-then-not-p.ensures
+    let d = sym (sound-is at.After-read_packets-p) ∙ not-true r.read_packets-p.result.sound c.if-not-p.true in
+    answers at.Start C.unfinished c.unframed-then-not-p.result (records_by (panel_seen s.args.setup) s.args.bytes.now true true false (contacts_good (panel_seen s.args.setup) (contacts at.Start)) (whole at.Else-bytes-ne0) (enough at.Else-setup-p) d refl) c.unframed-then-not-p.ensures
 
 pub values_ok-requires : goal.values_ok-requires
 values_ok-requires c =
@@ -142,23 +146,24 @@ values_ok-requires c =
 
 pub returns-then-not-values_ok : goal.returns-then-not-values_ok
 returns-then-not-values_ok c =
+    let at = goal.at.returns-then-not-values_ok c in
     let v = c in
     let s = v in
-    let f = v in
-    let y = sym (values-are (goal.at.returns-then-not-values_ok v).After-values_ok) ∙ c.if-not-values_ok.true in
-    answers (goal.at.returns-then-not-values_ok s).Start C.value c.unframed-then-not-values_ok.result (records_by (panel_seen s.args.setup) s.args.bytes.now true true true false (whole (goal.at.returns-then-not-values_ok f).Else-bytes-ne0) (enough (goal.at.returns-then-not-values_ok f).Else-setup-p) (finished (goal.at.returns-then-not-values_ok v).Else-not-p) y) c.unframed-then-not-values_ok.ensures
+    let y = sym (values-are at.After-values_ok) ∙ c.if-not-values_ok.true in
+    answers at.Start C.value c.unframed-then-not-values_ok.result (records_by (panel_seen s.args.setup) s.args.bytes.now true true true false (whole at.Else-bytes-ne0) (enough at.Else-setup-p) (finished at.Else-not-p) y) c.unframed-then-not-values_ok.ensures
 
 pub numbers_at-numbers-requires : goal.numbers_at-numbers-requires
 numbers_at-numbers-requires c =
+    let at = goal.at.numbers_at-numbers-requires c in
     let f = c in
     let s = f in (
-      table_within s.args.setup (sizes (goal.at.numbers_at-numbers-requires s).Start) s.args.setup.n s.args.table (holds _ s.requires.slots),
-      subst (λ q. Judged q) (sym f.read_packets-p.ensures) (judged-read s.args.setup (sizes (goal.at.numbers_at-numbers-requires s).Start) (events_of s.args.bytes.now) (at-most-five (goal.at.numbers_at-numbers-requires f).Else-setup-p) (values-good (goal.at.numbers_at-numbers-requires c).Else-not-values_ok)),
+      table_within s.args.setup (sizes at.Start) s.args.setup.n s.args.table (holds _ s.requires.slots),
+      subst (λ q. Judged q) (sym f.read_packets-p.ensures) (judged-read s.args.setup (sizes at.Start) (events_of s.args.bytes.now) (at-most-five at.Else-setup-p) (values-good at.Else-not-values_ok)),
     )
 
-pub frame_of-frame-requires : goal.frame_of-frame-requires
-frame_of-frame-requires c = (
-  (sizes (goal.at.frame_of-frame-requires c).Start).n,
+pub frame_of-requires : goal.frame_of-requires
+frame_of-requires c = (
+  (sizes (goal.at.frame_of-requires c).Start).n,
   subst (λ l. Numbers l) (sym c.numbers_at-numbers.ensures) (numbers-at-most c.args.table c.read_packets-p.result c.if-p-gt-MOST.false),
 )
 
@@ -167,12 +172,12 @@ overflow_mul-size c = omega (arith, (sizes (goal.at.overflow_mul-size c).Start).
 
 pub returns : goal.returns
 returns c =
+    let at = goal.at.returns c in
     let n = c in
-    let a = n in
     let f = n in
     let s = n in
-    let accepted = records_by (panel_seen s.args.setup) s.args.bytes.now true true true true (whole (goal.at.returns f).Else-bytes-ne0) (enough (goal.at.returns f).Else-setup-p) (finished (goal.at.returns a).Else-not-p) (values-good (goal.at.returns a).Else-not-values_ok) in
+    let accepted = records_by (panel_seen s.args.setup) s.args.bytes.now true true true true (whole at.Else-bytes-ne0) (enough at.Else-setup-p) (finished at.Else-not-p) (values-good at.Else-not-values_ok) in
     let p = f.read_packets-p in
-    let is = frame_is s.args.setup s.args.table s.args.bytes.now p.result n.numbers_at-numbers.result c.frame_of-frame.result p.ensures (at-most-five (goal.at.returns f).Else-setup-p) n.numbers_at-numbers.ensures c.frame_of-frame.ensures in
+    let is = frame_is s.args.setup s.args.table s.args.bytes.now p.result n.numbers_at-numbers.result c.frame_of.result p.ensures (at-most-five at.Else-setup-p) n.numbers_at-numbers.ensures c.frame_of.ensures in
     let made = framed_by C.accepted s.args.setup s.args.table s.args.bytes.now in
-    answers (goal.at.returns s).Start C.accepted _ accepted (λ i. record { frame = is i; size = made.size; verdict = made.verdict })
+    answers at.Start C.accepted _ accepted (λ i. record { frame = is i; size = made.size; verdict = made.verdict })

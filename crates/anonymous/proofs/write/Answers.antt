@@ -64,17 +64,19 @@ returns-then-not-state_ok c =
 
 pub read_frame-f-requires : goal.read_frame-f-requires
 read_frame-f-requires c =
+    let at = goal.at.read_frame-f-requires c in
     let e = c in
     let s = e in
-    record { setup = good-setup s.args.state (good (goal.at.read_frame-f-requires e).Else-not-state_ok); slots = good-slots s.args.state (good (goal.at.read_frame-f-requires e).Else-not-state_ok) (full (goal.at.read_frame-f-requires s).Start) }
+    record { setup = good-setup s.args.state (good at.Else-not-state_ok); slots = good-slots s.args.state (good at.Else-not-state_ok) (full at.Start) }
 
 pub returns-then-number-ne0 : goal.returns-then-number-ne0
 returns-then-number-ne0 c =
+    let at = goal.at.returns-then-number-ne0 c in
     let n = c in
     let s = n in
-    let w = verdict (goal.at.returns-then-number-ne0 s).Start in
-    let not-accepted : is_accepted w ≡ false = ne_eqb (C.verdict_number w) 0 (λ z. c.if-number-ne0.true (told (goal.at.returns-then-number-ne0 n).After-number ∙ z)) in
-    let r = refused_so s.args.state s.args.bytes.now s.args.at s.args.buf.now w (whole-verdict (goal.at.returns-then-number-ne0 n).After-number) not-accepted in
+    let w = verdict at.Start in
+    let not-accepted : is_accepted w ≡ false = ne_eqb (C.verdict_number w) 0 (λ z. c.if-number-ne0.true (told at.After-number ∙ z)) in
+    let r = refused_so s.args.state s.args.bytes.now s.args.at s.args.buf.now w (whole-verdict at.After-number) not-accepted in
     let said = ap (λ (f : Framed). not_written_by f.verdict s.args.state 0) n.read_frame-f.ensures in
     let no-need : (b : Bool) → ◌≡◌ {A = ℕ} 0 (cond b 0 0) = λ b. (elim b as (λ x. ◌≡◌ {A = ℕ} 0 (cond x 0 0)) [ true ↦ refl | false ↦ refl ]) in
     (c.refused-then-number-ne0.ensures ∙ said ∙ ap (not_written_by (verdict_from w) s.args.state) (no-need (eqb (C.verdict_number w) 5)) ∙ r.0, r.1)
@@ -103,10 +105,11 @@ slice_bounds-write-end c = let e = c in sym (length-take-le e.read_frame-f.resul
 
 pub returns : goal.returns
 returns c =
+    let at = goal.at.returns c in
     let w = c in
     let e = w in
     let n = e in
     let s = n in
-    let is = frame-read s.args.state s.args.bytes.now n.read_frame-f.result e.read_frame-f.ensures (accepted (goal.at.returns e).Else-number-ne0) (few (goal.at.returns e).Else-number-ne0) (sized (goal.at.returns e).Else-number-ne0) in
-    let r = written_so s.args.state s.args.bytes.now s.args.at s.args.buf.now _ (ap is_accepted (whole-verdict (goal.at.returns n).After-number) ∙ accepted (goal.at.returns e).Else-number-ne0) is in
+    let is = frame-read s.args.state s.args.bytes.now n.read_frame-f.result e.read_frame-f.ensures (accepted at.Else-number-ne0) (few at.Else-number-ne0) (sized at.Else-number-ne0) in
+    let r = written_so s.args.state s.args.bytes.now s.args.at s.args.buf.now _ (ap is_accepted (whole-verdict at.After-number) ∙ accepted at.Else-number-ne0) is in
     (w.write.ensures.0 ∙ r.0, w.write.ensures.1 ∙ r.1)

@@ -1,12 +1,8 @@
 -- `commands::put_one` stores one byte at the start of a lent part. Assumes nothing.
 use mathlib.Core.List.{[], ◌∷◌}
-use lib.ListN.{length-set}
 use lib.Seq.{sets-eq}
 use Rattle.records.specs.Seen.{over}
 use Rattle.commands.proofs.put_one.Goals as goal
-
-pub shape_of-b : goal.shape_of-b
-shape_of-b c = simp length-set
 
 pub returns : goal.returns
 unfolding over

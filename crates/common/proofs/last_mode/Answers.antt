@@ -12,15 +12,13 @@ use Rattle.common.proofs.last_mode.Goals as goal
 pub loop-i-preserved : goal.loop-i-preserved
 loop-i-preserved c =
     let l = c.loop-i in
-    let s = c.args.bytes.now in (
-      search rules,
-      l.invariant.1
-          ∙ last-next (mode_of l.mode) s (length s / 8) l.i (search rules)
-          ∙ ap (λ m. last_mode m (events_from (length s / 8 - (l.i + 1)) s (8 * (l.i + 1)))) (ap (λ e. on_lost (mode_of l.mode) (heard e)) (sym c.record_at-e.ensures) ∙ sym c.lost_step-mode.ensures),
-    )
+    let s = c.args.bytes.now in
+    l.invariant
+    ∙ last-next (mode_of l.mode) s (length s / 8) l.i (search rules)
+    ∙ ap (λ m. last_mode m (events_from (length s / 8 - (l.i + 1)) s (8 * (l.i + 1)))) (ap (λ e. on_lost (mode_of l.mode) (heard e)) (sym c.record_at.ensures) ∙ sym c.lost_step-mode.ensures)
 
 pub returns : goal.returns
 returns c =
     let l = c.loop-i in
     let s = c.args.bytes.now in
-    sym (l.invariant.1 ∙ last_end (mode_of l.mode) s (length s / 8) l.i (search rules))
+    sym (l.invariant ∙ last_end (mode_of l.mode) s (length s / 8) l.i (search rules))

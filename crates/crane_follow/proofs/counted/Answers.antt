@@ -6,5 +6,5 @@ use Rattle.crane_follow.proofs.counted.Goals as goal
 
 pub returns : goal.returns
 returns c =
-    let first = sym (skipped_back c.first_of-first.result) ∙ ap skipped_from c.first_of-first.ensures in
+    let first = sym (skipped_back c.first_of.result) ∙ ap skipped_from c.first_of.ensures in
     rw first

@@ -41,6 +41,3 @@ abbrev pub invariant-loop-k : goal.invariant-loop-k
 invariant-loop-k l =
     let so = sofar l.frames l.types l.codes (first_at l.bytes (l.types + l.codes) l.first) in
     Kept l.setup l.bytes l.count (reader_of l.initial.shown l.initial.pending l.initial.current following) (reader_of l.shown l.pending l.current following) l.pending l.written so l.first l.k
-
-abbrev pub decreases-loop-k : goal.decreases-loop-k
-decreases-loop-k l = l.count - l.k

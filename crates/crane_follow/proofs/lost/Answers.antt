@@ -12,5 +12,5 @@ returns c =
     let a = c.args in
     let s = a.bytes.now in
     let n = length s / 8 in
-    let mode = sym (mode_back c.last_mode-mode.result) ∙ ap mode_from c.last_mode-mode.ensures in
+    let mode = sym (mode_back c.last_mode.result) ∙ ap mode_from c.last_mode.ensures in
     rw (events-length (n - a.k) s (8 * a.k), mode, skipped_back a.before.first)

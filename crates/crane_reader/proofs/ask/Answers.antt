@@ -23,17 +23,17 @@ returns-then-not-state_ok c =
     answers a.state a.slot.0 _
     (sym (ap asked_from (ask-bad-state crane (seen a.state) a.slot.0 (sym c.state_ok.ensures ∙ c.if-not-state_ok.true))))
 
-pub returns-then-setup-k : goal.returns-then-setup-k
-returns-then-setup-k c =
+pub returns-then-state-slot : goal.returns-then-state-slot
+returns-then-state-slot c =
     let p = c in
     let a = p.args in
     answers a.state a.slot.0 _
-    (sym (ap asked_from (ask_no_slot crane (seen a.state) a.slot.0 (good (goal.at.returns-then-setup-k p).Else-not-state_ok) (le-ltb a.slot.0 a.state.setup.n c.if-setup-k.true))))
+    (sym (ap asked_from (ask_no_slot crane (seen a.state) a.slot.0 (good (goal.at.returns-then-state-slot p).Else-not-state_ok) (le-ltb a.slot.0 a.state.setup.n c.if-state-slot.true))))
 
 pub answer_in-requires : goal.answer_in-requires
 answer_in-requires c =
     let p = c in
-    omega (arith, c.if-setup-k.false, (good-small p.args.state (good (goal.at.answer_in-requires p).Else-not-state_ok)).n)
+    omega (arith, c.if-state-slot.false, (good-small p.args.state (good (goal.at.answer_in-requires p).Else-not-state_ok)).n)
 
 pub returns : goal.returns
 returns c =
@@ -41,4 +41,4 @@ returns c =
     let a = p.args in
     answers a.state a.slot.0 _
     (c.answer_in.ensures
-    ∙ sym (ap asked_from (ask-slot crane (seen a.state) a.slot.0 (good (goal.at.returns p).Else-not-state_ok) (lt-ltb a.slot.0 a.state.setup.n c.if-setup-k.false))))
+    ∙ sym (ap asked_from (ask-slot crane (seen a.state) a.slot.0 (good (goal.at.returns p).Else-not-state_ok) (lt-ltb a.slot.0 a.state.setup.n c.if-state-slot.false))))

@@ -10,4 +10,4 @@ returns c =
     let a = c.args in
     let bs = a.bytes.now in
     let x = so_far bs a.so a.bad in
-    counts-told a.shown (record { 0 = a.current }) dropped _ x (left_from bs (a.k + 1)) _ c.lost.ensures c.counted-c.ensures
+    counts-told a.shown (record { 0 = a.current }) dropped _ x (left_from bs (a.k + 1)) _ c.lost.ensures c.counted.ensures

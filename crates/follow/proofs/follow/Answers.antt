@@ -26,32 +26,25 @@ use Rattle.panel.specs.declared.Slot.{Slot}
 use Rattle.panel.specs.Seen.{table_of, panel_seen, blank}
 use Rattle.panel.proofs.Setups.{Small, small}
 use Rattle.acts.specs.declared.Act.{Act}
+use Rattle.acts.specs.declared.Act.TheVariants.{Id}
 use Rattle.acts.specs.Seen.{act_of}
 use Rattle.follow.specs.Runs.{ended_from, left_from, so_far, Skips}
 use Rattle.follow.proofs.Ends.{kept_at, ends, counts-told}
 use Rattle.follow.proofs.Kept as K
 use Rattle.follow.proofs.Kept.{Kept, kept-begins, kept_select, kept-report, kept-id, kept-number, kept-type, kept-code}
 use Rattle.follow.proofs.Kept.{two-shown, ends-bad, ends_lost, ends_stale}
-use Rattle.follow.proofs.follow.Goals.{then-written+else-not-ids_differ, else-written, then-opened-lt2, else-opened-lt2, After-id_ok, After-word_at-value}
+use Rattle.follow.proofs.follow.Goals.{in-UnknownType, in-UnknownCode, in-Report, in-Select+else-setup-slot, in-Id+else-not-id_ok, in-X+else-setup-value, in-Y+else-setup-value-2, in-Pressure+else-setup-value-3, in-Major+else-setup-value-4, in-Minor+else-setup-value-5}
+use Rattle.follow.proofs.follow.Goals.{then-written+else-not-ids_differ, else-written, then-opened-lt2, else-opened-lt2, After-word_at-value}
 use Rattle.follow.proofs.follow.Goals as goal
 
 abbrev setup : After-word_at-value → Setup
 setup p = p.args.setup
 
-abbrev setup-at-After-id_ok : After-id_ok → Setup
-setup-at-After-id_ok p = p.args.setup
-
 abbrev bytes : After-word_at-value → List ℕ
 bytes p = p.args.bytes.now
 
-abbrev bytes-at-After-id_ok : After-id_ok → List ℕ
-bytes-at-After-id_ok p = p.args.bytes.now
-
 inside : (p : After-word_at-value) → p.loop-k.k < length (bytes p) / 8
 inside p = search rules
-
-inside-at-After-id_ok : (p : After-id_ok) → p.loop-k.k < length (bytes-at-After-id_ok p) / 8
-inside-at-After-id_ok p = search rules
 
 skips : (p : After-word_at-value) → Skips p.loop-k.so (length (bytes p))
 skips p = K.skips p.loop-k.invariant (inside p) (search rules)
@@ -65,11 +58,6 @@ is_read p =
     ap₂ (λ h v. headed h (signed_of v)) p.word_at.ensures p.word_at-value.ensures
     ∙ words_event (bytes p) (8 * p.loop-k.k) p.shared_slice_known-1.given
 
-is_read-at-After-id_ok : (p : After-id_ok) → (headed p.word_at.result (signed_of p.word_at-value.result)) ≡ event_at (bytes-at-After-id_ok p) (8 * p.loop-k.k)
-is_read-at-After-id_ok p =
-    ap₂ (λ h v. headed h (signed_of v)) p.word_at.ensures p.word_at-value.ensures
-    ∙ words_event (bytes-at-After-id_ok p) (8 * p.loop-k.k) p.shared_slice_known-1.given
-
 -- What the record asks, by its act.
 asked : (p : After-word_at-value) (a : Act) → p.act_of-act.result ≡ a → asks (K.here p.loop-k.invariant (inside p)) ≡ act_of (setup p) (headed p.word_at.result (signed_of p.word_at-value.result)) a
 asked p a e =
@@ -77,24 +65,13 @@ asked p a e =
     ∙ sym (p.act_of-act.ensures (setup p) (signed_of p.word_at-value.result))
     ∙ ap (act_of (setup p) (headed p.word_at.result (signed_of p.word_at-value.result))) e
 
-asked-at-After-id_ok : (p : After-id_ok) (a : Act) → p.act_of-act.result ≡ a → asks (K.here p.loop-k.invariant (inside-at-After-id_ok p)) ≡ act_of (setup-at-After-id_ok p) (headed p.word_at.result (signed_of p.word_at-value.result)) a
-asked-at-After-id_ok p a e =
-    ap (classify (panel_seen (setup-at-After-id_ok p))) (sym (is_read-at-After-id_ok p))
-    ∙ sym (p.act_of-act.ensures (setup-at-After-id_ok p) (signed_of p.word_at-value.result))
-    ∙ ap (act_of (setup-at-After-id_ok p) (headed p.word_at.result (signed_of p.word_at-value.result))) e
-
 id-judged : (v z : ℤ) (b : Bool) → v ≡ z → fits id_field z ≡ b → cond (fits id_field v) (E.number 0 v) E.bad ≡ cond b (E.number 0 z) E.bad
 id-judged v z b e g = rw (e, g)
 
 -- What it asks, by whether it is good.
-id-asked : (c : After-id_ok) (b : Bool) → c.id_ok.result ≡ b
-    → asks (K.here c.loop-k.invariant (inside-at-After-id_ok c)) ≡ cond b (E.number 0 (to_z w32 (of_z w32 c.signed_of-v.result))) E.bad
-id-asked c b e =
-    let s = c in
-    let z = s.signed_of-v.result in
-    let f : SFits w32 z = search rules in
-    let is = sym (to_z-of_z w32 z f ∙ s.signed_of-v.ensures) in
-    asked-at-After-id_ok s _ s.in-Id.is ∙ id-judged _ (to_z w32 (of_z w32 s.signed_of-v.result)) b is (sym c.id_ok.ensures ∙ e)
+id-asked : (p : After-word_at-value) (z : ℤ) → SFits w32 z → (b : Bool) → p.act_of-act.result ≡ Id → z ≡ signed_of p.word_at-value.result → b ≡ fits id_field (to_z w32 (of_z w32 z))
+    → asks (K.here p.loop-k.invariant (inside p)) ≡ cond b (E.number 0 (to_z w32 (of_z w32 z))) E.bad
+id-asked p z f b i e g = asked p _ i ∙ id-judged _ (to_z w32 (of_z w32 z)) b (sym (to_z-of_z w32 z f ∙ e)) (sym g)
 
 -- ---- the needs
 
@@ -104,18 +81,6 @@ loop-k-init c =
     let g = c.requires in
     kept-begins s.setup s.bytes.now s.shown0 s.pending0 s.current0.0 _
     g.0 g.1 (search rules) (search rules) g.2 (omega arith) (omega arith)
-
-pub loop-k-preserved-in-UnknownType : goal.loop-k-preserved-in-UnknownType
-loop-k-preserved-in-UnknownType c =
-    let p = c in
-    let e = asked (goal.at.loop-k-preserved-in-UnknownType p).After-word_at-value _ c.in-UnknownType.is in
-    kept-type p.loop-k.invariant (inside (goal.at.loop-k-preserved-in-UnknownType p).After-word_at-value) _ c.earliest-f.ensures (headed p.word_at.result (signed_of p.word_at-value.result)) (is_read (goal.at.loop-k-preserved-in-UnknownType p).After-word_at-value) e
-
-pub loop-k-preserved-in-UnknownCode : goal.loop-k-preserved-in-UnknownCode
-loop-k-preserved-in-UnknownCode c =
-    let p = c in
-    let e = asked (goal.at.loop-k-preserved-in-UnknownCode p).After-word_at-value _ c.in-UnknownCode.is in
-    kept-code p.loop-k.invariant (inside (goal.at.loop-k-preserved-in-UnknownCode p).After-word_at-value) _ c.earliest-f-in-UnknownCode.ensures (headed p.word_at.result (signed_of p.word_at-value.result)) (is_read (goal.at.loop-k-preserved-in-UnknownCode p).After-word_at-value) e
 
 pub ids_differ-requires : goal.ids_differ-requires
 ids_differ-requires c =
@@ -133,17 +98,6 @@ returns-then-not-ids_differ c =
     let after = left_from (bytes (goal.at.returns-then-not-ids_differ p).After-word_at-value) (l.k + 1) in
     let told = counts-told l.shown (record { 0 = l.current }) R.stale _ so after _ c.lost.ensures c.counted-c.ensures in
     ends_stale l.invariant (inside (goal.at.returns-then-not-ids_differ p).After-word_at-value) _ told e equal
-
-pub loop-k-preserved-in-Report : goal.loop-k-preserved-in-Report
-loop-k-preserved-in-Report c =
-    let p = c in
-    let l = p.loop-k in
-    let e = asked (goal.at.loop-k-preserved-in-Report p).After-word_at-value _ c.in-Report.is in
-    let differ : ids_differ (table_of l.pending) ≡ true =
-    elim c.if-written.branch [ then-written+else-not-ids_differ w ↦ sym w.ids_differ.ensures ∙ w.if-not-ids_differ.false | else-written w ↦ l.invariant.pends.apart w.if-written.false ] in
-    let same : c.if-opened-lt2.shown ≡ l.pending =
-    elim c.if-opened-lt2.branch [ then-opened-lt2 w ↦ w.shown-is ∙ two-shown l.invariant (inside (goal.at.loop-k-preserved-in-Report p).After-word_at-value) w.if-opened-lt2.true | else-opened-lt2 w ↦ w.shown-is ] in
-    kept-report l.invariant (inside (goal.at.loop-k-preserved-in-Report p).After-word_at-value) _ _ same e differ
 
 pub drops-requires : goal.drops-requires
 drops-requires c =
@@ -166,12 +120,6 @@ returns-then-setup-slot c =
     let e = asked (goal.at.returns-then-setup-slot p).After-word_at-value _ c.in-Select.is ∙ slot_out (setup (goal.at.returns-then-setup-slot p).After-word_at-value).n p.word_at-value.result c.if-setup-slot.true in
     ends-bad p.loop-k.invariant (inside (goal.at.returns-then-setup-slot p).After-word_at-value) _ c.drops-then-setup-slot.ensures e
 
-pub loop-k-preserved-in-Select : goal.loop-k-preserved-in-Select
-loop-k-preserved-in-Select c =
-    let p = c in
-    let good = slot-in (setup (goal.at.loop-k-preserved-in-Select p).After-word_at-value).n p.word_at-value.result c.if-setup-slot.false (omega (arith, (bounds (goal.at.loop-k-preserved-in-Select p).After-word_at-value).n)) in
-    kept_select p.loop-k.invariant (inside (goal.at.loop-k-preserved-in-Select p).After-word_at-value) p.word_at-value.result c.if-setup-slot.false (asked (goal.at.loop-k-preserved-in-Select p).After-word_at-value _ c.in-Select.is ∙ good)
-
 pub drops-requires-then-not-id_ok : goal.drops-requires-then-not-id_ok
 drops-requires-then-not-id_ok c =
     let p = c in
@@ -179,20 +127,10 @@ drops-requires-then-not-id_ok c =
 
 pub returns-then-not-id_ok : goal.returns-then-not-id_ok
 returns-then-not-id_ok c =
-    let i = c in
-    let p = i in
-    let e = id-asked (goal.at.returns-then-not-id_ok i).After-id_ok false c.if-not-id_ok.true in
-    ends-bad p.loop-k.invariant (inside (goal.at.returns-then-not-id_ok p).After-word_at-value) _ c.drops-then-not-id_ok.ensures e
-
-pub loop-k-preserved-in-Id : goal.loop-k-preserved-in-Id
-loop-k-preserved-in-Id c =
-    let i = c in
-    let p = i in
-    let l = p.loop-k in
-    let o = get_or l.pending l.current blank in
-    let x : Slot = record { id = record { 0 = (to_z w32 (of_z w32 i.signed_of-v.result)) }; x = o.x; y = o.y; pressure = o.pressure; major = o.major; minor = o.minor } in
-    let e = id-asked (goal.at.loop-k-preserved-in-Id i).After-id_ok true c.if-not-id_ok.false in
-    kept-id l.invariant (inside (goal.at.loop-k-preserved-in-Id p).After-word_at-value) 0 (to_z w32 (of_z w32 i.signed_of-v.result)) x e refl
+    let p = (goal.at.returns-then-not-id_ok c).After-word_at-value in
+    let f : SFits w32 c.signed_of-v.result = search rules in
+    let e = id-asked p c.signed_of-v.result f false c.in-Id.is c.signed_of-v.ensures (sym c.if-not-id_ok.true ∙ c.id_ok.ensures) in
+    ends-bad c.loop-k.invariant (inside p) _ c.drops-then-not-id_ok.ensures e
 
 pub drops-requires-then-setup-value : goal.drops-requires-then-setup-value
 drops-requires-then-setup-value c =
@@ -205,15 +143,6 @@ returns-then-setup-value c =
     let e = asked (goal.at.returns-then-setup-value p).After-word_at-value _ c.in-X.is ∙ number-bad 1 (setup (goal.at.returns-then-setup-value p).After-word_at-value).x p.word_at-value.result c.if-setup-value.true in
     ends-bad p.loop-k.invariant (inside (goal.at.returns-then-setup-value p).After-word_at-value) _ c.drops-then-setup-value.ensures e
 
-pub loop-k-preserved-in-X : goal.loop-k-preserved-in-X
-loop-k-preserved-in-X c =
-    let p = c in
-    let l = p.loop-k in
-    let o = get_or l.pending l.current blank in
-    let x : Slot = record { id = o.id; x = p.word_at-value.result; y = o.y; pressure = o.pressure; major = o.major; minor = o.minor } in
-    let good = number-good 1 (setup (goal.at.loop-k-preserved-in-X p).After-word_at-value).x p.word_at-value.result (omega (arith, (bounds (goal.at.loop-k-preserved-in-X p).After-word_at-value).x)) c.if-setup-value.false in
-    kept-number l.invariant (inside (goal.at.loop-k-preserved-in-X p).After-word_at-value) 1 (pos p.word_at-value.result) x (asked (goal.at.loop-k-preserved-in-X p).After-word_at-value _ c.in-X.is ∙ good) refl refl
-
 pub drops-requires-then-setup-value-2 : goal.drops-requires-then-setup-value-2
 drops-requires-then-setup-value-2 c =
     let p = c in
@@ -224,15 +153,6 @@ returns-then-setup-value-2 c =
     let p = c in
     let e = asked (goal.at.returns-then-setup-value-2 p).After-word_at-value _ c.in-Y.is ∙ number-bad 2 (setup (goal.at.returns-then-setup-value-2 p).After-word_at-value).y p.word_at-value.result c.if-setup-value-2.true in
     ends-bad p.loop-k.invariant (inside (goal.at.returns-then-setup-value-2 p).After-word_at-value) _ c.drops-then-setup-value-2.ensures e
-
-pub loop-k-preserved-in-Y : goal.loop-k-preserved-in-Y
-loop-k-preserved-in-Y c =
-    let p = c in
-    let l = p.loop-k in
-    let o = get_or l.pending l.current blank in
-    let x : Slot = record { id = o.id; x = o.x; y = p.word_at-value.result; pressure = o.pressure; major = o.major; minor = o.minor } in
-    let good = number-good 2 (setup (goal.at.loop-k-preserved-in-Y p).After-word_at-value).y p.word_at-value.result (omega (arith, (bounds (goal.at.loop-k-preserved-in-Y p).After-word_at-value).y)) c.if-setup-value-2.false in
-    kept-number l.invariant (inside (goal.at.loop-k-preserved-in-Y p).After-word_at-value) 2 (pos p.word_at-value.result) x (asked (goal.at.loop-k-preserved-in-Y p).After-word_at-value _ c.in-Y.is ∙ good) refl refl
 
 pub drops-requires-then-setup-value-3 : goal.drops-requires-then-setup-value-3
 drops-requires-then-setup-value-3 c =
@@ -245,15 +165,6 @@ returns-then-setup-value-3 c =
     let e = asked (goal.at.returns-then-setup-value-3 p).After-word_at-value _ c.in-Pressure.is ∙ number-bad 3 (setup (goal.at.returns-then-setup-value-3 p).After-word_at-value).pressure p.word_at-value.result c.if-setup-value-3.true in
     ends-bad p.loop-k.invariant (inside (goal.at.returns-then-setup-value-3 p).After-word_at-value) _ c.drops-then-setup-value-3.ensures e
 
-pub loop-k-preserved-in-Pressure : goal.loop-k-preserved-in-Pressure
-loop-k-preserved-in-Pressure c =
-    let p = c in
-    let l = p.loop-k in
-    let o = get_or l.pending l.current blank in
-    let x : Slot = record { id = o.id; x = o.x; y = o.y; pressure = p.word_at-value.result; major = o.major; minor = o.minor } in
-    let good = number-good 3 (setup (goal.at.loop-k-preserved-in-Pressure p).After-word_at-value).pressure p.word_at-value.result (omega (arith, (bounds (goal.at.loop-k-preserved-in-Pressure p).After-word_at-value).pressure)) c.if-setup-value-3.false in
-    kept-number l.invariant (inside (goal.at.loop-k-preserved-in-Pressure p).After-word_at-value) 3 (pos p.word_at-value.result) x (asked (goal.at.loop-k-preserved-in-Pressure p).After-word_at-value _ c.in-Pressure.is ∙ good) refl refl
-
 pub drops-requires-then-setup-value-4 : goal.drops-requires-then-setup-value-4
 drops-requires-then-setup-value-4 c =
     let p = c in
@@ -264,15 +175,6 @@ returns-then-setup-value-4 c =
     let p = c in
     let e = asked (goal.at.returns-then-setup-value-4 p).After-word_at-value _ c.in-Major.is ∙ number-bad 4 (setup (goal.at.returns-then-setup-value-4 p).After-word_at-value).major p.word_at-value.result c.if-setup-value-4.true in
     ends-bad p.loop-k.invariant (inside (goal.at.returns-then-setup-value-4 p).After-word_at-value) _ c.drops-then-setup-value-4.ensures e
-
-pub loop-k-preserved-in-Major : goal.loop-k-preserved-in-Major
-loop-k-preserved-in-Major c =
-    let p = c in
-    let l = p.loop-k in
-    let o = get_or l.pending l.current blank in
-    let x : Slot = record { id = o.id; x = o.x; y = o.y; pressure = o.pressure; major = p.word_at-value.result; minor = o.minor } in
-    let good = number-good 4 (setup (goal.at.loop-k-preserved-in-Major p).After-word_at-value).major p.word_at-value.result (omega (arith, (bounds (goal.at.loop-k-preserved-in-Major p).After-word_at-value).major)) c.if-setup-value-4.false in
-    kept-number l.invariant (inside (goal.at.loop-k-preserved-in-Major p).After-word_at-value) 4 (pos p.word_at-value.result) x (asked (goal.at.loop-k-preserved-in-Major p).After-word_at-value _ c.in-Major.is ∙ good) refl refl
 
 pub drops-requires-then-setup-value-5 : goal.drops-requires-then-setup-value-5
 drops-requires-then-setup-value-5 c =
@@ -285,15 +187,6 @@ returns-then-setup-value-5 c =
     let e = asked (goal.at.returns-then-setup-value-5 p).After-word_at-value _ c.in-Minor.is ∙ number-bad 5 (setup (goal.at.returns-then-setup-value-5 p).After-word_at-value).minor p.word_at-value.result c.if-setup-value-5.true in
     ends-bad p.loop-k.invariant (inside (goal.at.returns-then-setup-value-5 p).After-word_at-value) _ c.drops-then-setup-value-5.ensures e
 
-pub loop-k-preserved : goal.loop-k-preserved
-loop-k-preserved c =
-    let p = c in
-    let l = p.loop-k in
-    let o = get_or l.pending l.current blank in
-    let x : Slot = record { id = o.id; x = o.x; y = o.y; pressure = o.pressure; major = o.major; minor = p.word_at-value.result } in
-    let good = number-good 5 (setup (goal.at.loop-k-preserved p).After-word_at-value).minor p.word_at-value.result (omega (arith, (bounds (goal.at.loop-k-preserved p).After-word_at-value).minor)) c.if-setup-value-5.false in
-    kept-number l.invariant (inside (goal.at.loop-k-preserved p).After-word_at-value) 5 (pos p.word_at-value.result) x (asked (goal.at.loop-k-preserved p).After-word_at-value _ c.in-Minor.is ∙ good) refl refl
-
 pub returns : goal.returns
 returns c =
     let a = c.args in
@@ -301,3 +194,55 @@ returns c =
     let s = a.bytes.now in
     let end = ends a.setup s (length s / 8) l.k l.shown l.pending l.current (so_far s l.so 0) (search rules) in
     ap (kept_at l.shown l.pending (record { 0 = l.current })) c.counted.ensures ∙ end ∙ ap ended_from (sym l.invariant.left)
+
+-- What each arm leaves.
+pub loop-k-preserved : goal.loop-k-preserved
+loop-k-preserved c =
+    let p = (goal.at.loop-k-preserved c).After-word_at-value in
+    let h = inside p in
+    let l = c.loop-k in
+    let u = c.args.setup in
+    let value = c.word_at-value.result in
+    let head = headed c.word_at.result (signed_of value) in
+    let o = get_or l.pending l.current blank in
+    elim c.match-act.branch [
+      | in-UnknownType w ↦
+          rw (w.shown-is, w.pending-is, w.written-is, w.current-is, w.so-is, w.from-is, w.opened-is) (kept-type l.invariant h _ w.earliest.ensures head (is_read p) (asked p _ w.in-UnknownType.is))
+      | in-UnknownCode w ↦
+          rw (w.shown-is, w.pending-is, w.written-is, w.current-is, w.so-is, w.from-is, w.opened-is) (kept-code l.invariant h _ w.earliest-in-UnknownCode.ensures head (is_read p) (asked p _ w.in-UnknownCode.is))
+      | in-Report w ↦
+          let differ : ids_differ (table_of l.pending) ≡ true =
+          elim w.if-written.branch [ then-written+else-not-ids_differ q ↦ sym q.ids_differ.ensures ∙ q.if-not-ids_differ.false | else-written q ↦ l.invariant.pends.apart q.if-written.false ] in
+          let same : w.if-opened-lt2.shown ≡ l.pending =
+          elim w.if-opened-lt2.branch [ then-opened-lt2 q ↦ q.shown-is ∙ two-shown l.invariant h q.if-opened-lt2.true | else-opened-lt2 q ↦ q.shown-is ] in
+          rw (w.shown-is, w.pending-is, w.written-is, w.current-is, w.so-is, w.from-is, w.opened-is) (kept-report l.invariant h _ _ same (asked p _ w.in-Report.is) differ)
+      | in-Select+else-setup-slot w ↦
+          let good = slot-in u.n value w.if-setup-slot.false (omega (arith, (bounds p).n)) in
+          rw (w.shown-is, w.pending-is, w.written-is, w.current-is, w.so-is, w.from-is, w.opened-is) (kept_select l.invariant h value w.if-setup-slot.false (asked p _ w.in-Select.is ∙ good))
+      | in-Id+else-not-id_ok w ↦
+          let z = w.signed_of-v.result in
+          let f : SFits w32 z = search rules in
+          let x : Slot = record { id = record { 0 = to_z w32 (of_z w32 z) }; x = o.x; y = o.y; pressure = o.pressure; major = o.major; minor = o.minor } in
+          let e = id-asked p z f true w.in-Id.is w.signed_of-v.ensures (sym w.if-not-id_ok.false ∙ w.id_ok.ensures) in
+          rw (w.shown-is, w.pending-is, w.written-is, w.current-is, w.so-is, w.from-is, w.opened-is) (kept-id l.invariant h 0 (to_z w32 (of_z w32 z)) x e refl)
+      | in-X+else-setup-value w ↦
+          let x : Slot = record { id = o.id; x = value; y = o.y; pressure = o.pressure; major = o.major; minor = o.minor } in
+          let good = number-good 1 u.x value (omega (arith, (bounds p).x)) w.if-setup-value.false in
+          rw (w.shown-is, w.pending-is, w.written-is, w.current-is, w.so-is, w.from-is, w.opened-is) (kept-number l.invariant h 1 (pos value) x (asked p _ w.in-X.is ∙ good) refl refl)
+      | in-Y+else-setup-value-2 w ↦
+          let x : Slot = record { id = o.id; x = o.x; y = value; pressure = o.pressure; major = o.major; minor = o.minor } in
+          let good = number-good 2 u.y value (omega (arith, (bounds p).y)) w.if-setup-value-2.false in
+          rw (w.shown-is, w.pending-is, w.written-is, w.current-is, w.so-is, w.from-is, w.opened-is) (kept-number l.invariant h 2 (pos value) x (asked p _ w.in-Y.is ∙ good) refl refl)
+      | in-Pressure+else-setup-value-3 w ↦
+          let x : Slot = record { id = o.id; x = o.x; y = o.y; pressure = value; major = o.major; minor = o.minor } in
+          let good = number-good 3 u.pressure value (omega (arith, (bounds p).pressure)) w.if-setup-value-3.false in
+          rw (w.shown-is, w.pending-is, w.written-is, w.current-is, w.so-is, w.from-is, w.opened-is) (kept-number l.invariant h 3 (pos value) x (asked p _ w.in-Pressure.is ∙ good) refl refl)
+      | in-Major+else-setup-value-4 w ↦
+          let x : Slot = record { id = o.id; x = o.x; y = o.y; pressure = o.pressure; major = value; minor = o.minor } in
+          let good = number-good 4 u.major value (omega (arith, (bounds p).major)) w.if-setup-value-4.false in
+          rw (w.shown-is, w.pending-is, w.written-is, w.current-is, w.so-is, w.from-is, w.opened-is) (kept-number l.invariant h 4 (pos value) x (asked p _ w.in-Major.is ∙ good) refl refl)
+      | in-Minor+else-setup-value-5 w ↦
+          let x : Slot = record { id = o.id; x = o.x; y = o.y; pressure = o.pressure; major = o.major; minor = value } in
+          let good = number-good 5 u.minor value (omega (arith, (bounds p).minor)) w.if-setup-value-5.false in
+          rw (w.shown-is, w.pending-is, w.written-is, w.current-is, w.so-is, w.from-is, w.opened-is) (kept-number l.invariant h 5 (pos value) x (asked p _ w.in-Minor.is ∙ good) refl refl)
+    ]

@@ -1,26 +1,24 @@
 -- `force::mark_from` finds the first 0x2B: what is still to be searched gives the same place. Assumes nothing.
-use mathlib.Core.Path.{refl, sym, ◌∙◌}
-use borrow.Author.Rules.{rules}
+use mathlib.Core.Path.{◌≡◌, refl, sym, ◌∙◌}
+use native.Mathlib.Omega.{arith}
 use Rattle.model.proofs.ForceReads.{mark_here, mark-next, mark_end}
 use Rattle.force.proofs.mark_from.Goals as goal
 
 pub loop-place-init : goal.loop-place-init
-loop-place-init c = refl
+loop-place-init c = record { within = omega arith; same = refl }
 
 pub returns-then-bytes-place-eq-MARK : goal.returns-then-bytes-place-eq-MARK
 returns-then-bytes-place-eq-MARK c =
     let l = c.loop-place in
-    let s = c.args.bytes.now in
-    sym (l.invariant ∙ mark_here s l.place (search rules) c.if-bytes-place-eq-MARK.true)
+    sym (l.invariant.same ∙ mark_here c.args.bytes.now l.place (omega arith) c.if-bytes-place-eq-MARK.true)
 
 pub loop-place-preserved : goal.loop-place-preserved
 loop-place-preserved c =
     let l = c.loop-place in
-    let s = c.args.bytes.now in
-    l.invariant ∙ mark-next s l.place (search rules) c.if-bytes-place-eq-MARK.false
+    record { within = omega arith; same = l.invariant.same ∙ mark-next c.args.bytes.now l.place (omega arith) c.if-bytes-place-eq-MARK.false }
 
 pub returns : goal.returns
 returns c =
     let l = c.loop-place in
-    let s = c.args.bytes.now in
-    sym (l.invariant ∙ mark_end s l.place (search rules))
+    let end : l.place ≡ c.max.result = omega (arith, c.max.ensures) in
+    sym (l.invariant.same ∙ mark_end c.args.bytes.now l.place (omega arith) ∙ end)

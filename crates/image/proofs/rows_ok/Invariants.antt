@@ -1,6 +1,6 @@
 -- `image::rows_ok` tells whether every row is good. The loop has passed i good rows. Assumes nothing.
 use mathlib.Core.Path.{◌≡◌}
-use Prim.Native.Nat.{◌-◌, ◌*◌, ◌≤◌}
+use Prim.Native.Nat.{◌-◌, ◌*◌}
 use Rattle.model.specs.Panel.{per_slot}
 use Rattle.model.specs.Table.{good_records}
 use Rattle.model.specs.Frame.{rows_from}
@@ -8,7 +8,4 @@ use Rattle.panel.specs.Seen.{fields_of}
 use Rattle.image.proofs.rows_ok.Given as goal
 
 abbrev pub invariant-loop-i : goal.invariant-loop-i
-invariant-loop-i l = (l.i ≤ l.n) × (good_records (fields_of l.setup) l.n (rows_from per_slot l.n l.image 0) ≡ good_records (fields_of l.setup) (l.n - l.i) (rows_from per_slot (l.n - l.i) l.image (per_slot * l.i)))
-
-abbrev pub decreases-loop-i : goal.decreases-loop-i
-decreases-loop-i l = l.n - l.i
+invariant-loop-i l = good_records (fields_of l.setup) l.setup.n (rows_from per_slot l.setup.n l.image 0) ≡ good_records (fields_of l.setup) (l.setup.n - l.i) (rows_from per_slot (l.setup.n - l.i) l.image (per_slot * l.i))

@@ -6,14 +6,5 @@ use Rattle.lent.proofs.put_setup.Goals as goal
 pub returns : goal.returns
 unfolding setup_bytes
 returns c =
-    let f = c in
-    let e = f in
-    let d = e in
-    let t = d in
-    let s = t in
-    let o = s in
-    let i = o in
-    let a = i.args in
-    six_laid a.at a.u.n a.u.x a.u.y a.u.pressure a.u.major a.u.minor
-    a.b.now o.put_word.new.b s.put_word-2.new.b t.put_word-3.new.b d.put_word-4.new.b e.put_word-5.new.b f.put_word-6.new.b
-    i.requires.0 o.put_word.ensures s.put_word-2.ensures t.put_word-3.ensures d.put_word-4.ensures e.put_word-5.ensures f.put_word-6.ensures
+    let a = c.args in
+    six_laid a.at _ _ _ _ _ _ a.b.now _ _ _ _ _ _ c.requires.0 c.put_word.ensures c.put_word-2.ensures c.put_word-3.ensures c.put_word-4.ensures c.put_word-5.ensures c.put_word-6.ensures

@@ -12,19 +12,9 @@ use Rattle.lent.proofs.put_slot.Goals as goal
 pub returns : goal.returns
 unfolding slot_bytes
 returns c =
-    let f = c in
-    let e = f in
-    let d = e in
-    let t = d in
-    let s = t in
-    let o = s in
-    let g = o in
-    let i = g in
-    let a = i.args in
+    let a = c.args in
     let z = a.s.id.0 in
     let fits : SFits w32 z = search rules in
-    let bits : g.bits_of.result ≡ bits_of z = rw (to_z-of_z w32 z fits) at g.bits_of.ensures in
-    six_laid a.at g.bits_of.result a.s.x a.s.y a.s.pressure a.s.major a.s.minor
-    a.b.now o.put_word.new.b s.put_word-2.new.b t.put_word-3.new.b d.put_word-4.new.b e.put_word-5.new.b f.put_word-6.new.b
-    i.requires o.put_word.ensures s.put_word-2.ensures t.put_word-3.ensures d.put_word-4.ensures e.put_word-5.ensures f.put_word-6.ensures
+    let bits : c.bits_of.result ≡ bits_of z = rw (to_z-of_z w32 z fits) at c.bits_of.ensures in
+    six_laid a.at _ _ _ _ _ _ a.b.now _ _ _ _ _ _ c.requires c.put_word.ensures c.put_word-2.ensures c.put_word-3.ensures c.put_word-4.ensures c.put_word-5.ensures c.put_word-6.ensures
     ∙ ap (λ v. lay a.at (six_bytes v a.s.x a.s.y a.s.pressure a.s.major a.s.minor) a.b.now) bits

@@ -1,6 +1,6 @@
--- `lent::put_table`: as many slots are stored as were passed; the measure is what is left of them. Assumes nothing.
+-- `lent::put_table`: as many slots are stored as were passed. Assumes nothing.
 use mathlib.Core.Path.{◌≡◌}
-use Prim.Native.Nat.{◌-◌, ◌≤◌}
+use Prim.Native.Nat.{◌≤◌}
 use lib.ListN.{take}
 use Rattle.model.specs.Panel.{records}
 use Rattle.model.specs.Records.{lay}
@@ -9,6 +9,3 @@ use Rattle.lent.proofs.put_table.Given as goal
 
 abbrev pub invariant-loop-i : goal.invariant-loop-i
 invariant-loop-i l = (l.i ≤ records) × (l.b ≡ lay l.at (table_bytes (take l.i l.t)) l.initial.b)
-
-abbrev pub decreases-loop-i : goal.decreases-loop-i
-decreases-loop-i l = records - l.i

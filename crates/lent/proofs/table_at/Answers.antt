@@ -1,14 +1,12 @@
--- `lent::table_at`: as many slots are read as were passed; the measure is what is left of them. Assumes nothing.
-use mathlib.Core.Path.{◌≡◌, sym, ap, ap₂, ◌∙◌}
+-- `lent::table_at`: as many slots are read as were passed. Assumes nothing.
+use mathlib.Core.Path.{sym, ap₂, ◌∙◌}
 use mathlib.Core.List.{◌∷◌, [], ◌++◌}
 use Prim.Native.Nat.{◌<◌}
 use native.Mathlib.Numerals.{add-one}
 use native.Mathlib.Omega.{arith}
 use lib.ListN.{length, length-set}
-use lib.Seq.{take_all, take-suc-set}
+use lib.Seq.{take-suc-set}
 use borrow.Author.Rules.{rules}
-use Rattle.model.specs.Panel.{records}
-use Rattle.lent.specs.Lent.{slots_from}
 use Rattle.lent.proofs.Tables.{slots-none, slots-more}
 use Rattle.lent.proofs.table_at.Goals as goal
 
@@ -28,10 +26,3 @@ loop-i-preserved c =
           ∙ sym (slots-more l.i a.b.now a.at)
           ),
     )
-
-pub returns : goal.returns
-returns c =
-    let a = c.args in
-    let l = c.loop-i in
-    let past : l.i ≡ records = omega arith in
-    sym (take_all l.i l.t (omega arith)) ∙ l.invariant.2 ∙ ap (λ n. slots_from n a.b.now a.at) past

@@ -9,8 +9,6 @@ use Rattle.lent_devices.proofs.force_read.Goals as goal
 
 pub returns : goal.returns
 returns c =
-    let k = c in
-    let s = k in
-    let e = k.read-a.ensures.answer in
-    let q = ap (λ (x : ReadAnswer). answer_seen x.answer) e ∙ answer-seen (read_at s.args.bytes.now s.args.at).answer in
+    let e = c.read-a.ensures.answer in
+    let q = ap (λ (x : ReadAnswer). answer_seen x.answer) e ∙ answer-seen (read_at c.args.bytes.now c.args.at).answer in
     record { next = ap (λ (x : ReadAnswer). x.next) e; answer = c.force_told.ensures ∙ ap force_told q }

@@ -4,9 +4,5 @@ use Rattle.lent_devices.proofs.lay_blocks.Goals as goal
 
 pub returns : goal.returns
 returns c =
-    let k = c in
-    let s = k in
-    laid-is s.args.number s.args.events.now s.args.at s.args.buf.now k.lay_blocks-a.new.buf k.lay_blocks-a.result
-    c.number_of-refusal.result
-    k.lay_blocks-a.ensures
-    c.number_of-refusal.ensures
+    let a = c.args in
+    laid-is a.number a.events.now a.at a.buf.now c.lay_blocks-a.new.buf c.lay_blocks-a.result c.number_of.result c.lay_blocks-a.ensures c.number_of.ensures

@@ -8,8 +8,6 @@ use Rattle.lent_devices.proofs.read_block.Goals as goal
 
 pub returns : goal.returns
 returns c =
-    let k = c in
-    let s = k in
-    let q : read_seen k.read_block-a.result ≡ read_block s.args.number s.args.block.now =
-    ap read_seen k.read_block-a.ensures.answer ∙ read-seen (read_block s.args.number s.args.block.now) in
+    let q : read_seen c.read_block-a.result ≡ read_block c.args.number c.args.block.now =
+    ap read_seen c.read_block-a.ensures.answer ∙ read-seen (read_block c.args.number c.args.block.now) in
     record { number = c.name_of.ensures ∙ ap read_number q; answer = c.read_told.ensures ∙ ap read_told q }

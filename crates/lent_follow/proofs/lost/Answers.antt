@@ -9,10 +9,9 @@ use Rattle.lent_follow.proofs.lost.Goals as goal
 
 pub returns : goal.returns
 returns c =
-    let taken = c in
-    let a = taken.args in
+    let a = c.args in
     let s = a.bytes.now in
     let n = length s / 8 in
-    let t = taken.take_back.ensures in
+    let t = c.take_back.ensures in
     let mode = sym (mode_back c.last_mode-mode.result) ∙ ap mode_from c.last_mode-mode.ensures in
     rw (t.shown, t.pending, events-length (n - a.k) s (8 * a.k), mode, skipped_back a.before.first)

@@ -13,23 +13,20 @@ use Rattle.lent_follow.proofs.show_slot.Goals as goal
 
 pub returns : goal.returns
 returns c =
-    let put = c in
-    let p = put in
-    let a = p in
-    let t = a.args.t.now in
-    let s = a.args.s in
-    let w = p.slot_at-w.result in
+    let t = c.args.t.now in
+    let s = c.args.s in
+    let w = c.slot_at-w.result in
     let z : 0 + slot_size * s ≡ slot_size * s = omega arith in
-    let is : w ≡ slot_in t (table_size + slot_size * s) = p.slot_at-w.ensures in
-    let fits : SlotFits w = rw is (slot-fits t (table_size + slot_size * s) p.slice_known-1.given) in
-    let room : slot_size * s ≤ length t = omega (arith, a.requires.0, a.requires.1) in
-    let last = put.put_slot.ensures in
+    let is : w ≡ slot_in t (table_size + slot_size * s) = c.slot_at-w.ensures in
+    let fits : SlotFits w = rw is (slot-fits t (table_size + slot_size * s) c.slice_known-1.given) in
+    let room : slot_size * s ≤ length t = omega (arith, c.requires.0, c.requires.1) in
+    let last = c.put_slot.ensures in
     record {
       shown =
           ap (λ b. slots_from records b 0) (last ∙ ap (λ k. lay k (slot_bytes w) t) (sym z))
-          ∙ table-set records t 0 s w fits a.requires.0 (omega (arith, a.requires.1))
-          ∙ ap (set (shown_in t) s) (is ∙ sym (slot-of records t table_size s a.requires.0));
+          ∙ table-set records t 0 s w fits c.requires.0 (omega (arith, c.requires.1))
+          ∙ ap (set (shown_in t) s) (is ∙ sym (slot-of records t table_size s c.requires.0));
       pending =
           ap (λ b. slots_from records b table_size) last
-          ∙ slots-after (slot_size * s) (slot_bytes w) t room records table_size (omega (arith, slot-length w, a.requires.0));
+          ∙ slots-after (slot_size * s) (slot_bytes w) t room records table_size (omega (arith, slot-length w, c.requires.0));
     }

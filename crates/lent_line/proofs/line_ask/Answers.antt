@@ -1,13 +1,12 @@
 -- `lent_line::line_ask`: bytes that are not formed, and the answer of the state that they hold. Assumes nothing.
-use mathlib.Core.Path.{◌≡◌, refl, sym, ap, ◌∙◌, subst}
-use mathlib.Core.Bool.{true, false}
+use mathlib.Core.Path.{◌≡◌, sym, ap, ◌∙◌, subst}
+use mathlib.Core.Bool.{true}
 use Rattle.model.specs.Panel.{base}
 use Rattle.model.specs.Pieces.{line_ask_call}
 use Rattle.reader.specs.Seen.{AnswersAs, answer_seen}
 use Rattle.pieces.specs.Seen.{seen}
 use Rattle.lent_reader.specs.Seen.{asked_row}
 use Rattle.lent_line.specs.Layout.{formed, unpacked}
-use Rattle.lent_line.proofs.Laid.{formed-length}
 use Rattle.lent_line.proofs.Asked.{asked-few, line_back, ask_in}
 use Rattle.lent_line.proofs.line_ask.Goals.{After-ask, Else-not-formed}
 use Rattle.lent_line.proofs.line_ask.Goals as goal
@@ -20,15 +19,6 @@ whole c = sym c.formed.ensures ∙ c.if-not-formed.false
 answers : (c : After-ask) → (let a = c.args in AnswersAs (line_ask_call base (seen (unpacked a.state.now)) a.slot) c.ask.result)
 answers c = let a = c.args in subst (λ s. AnswersAs (line_ask_call base (seen s) a.slot) c.ask.result) c.unpacked.ensures c.ask.ensures
 
-pub returns-then-not-formed : goal.returns-then-not-formed
-returns-then-not-formed c =
-    let a = c.args in
-    let k = c in
-    ask_in a.state.now a.slot false (sym k.formed.ensures ∙ c.if-not-formed.true) 2 _ refl refl
-
-pub unpacked-requires : goal.unpacked-requires
-unpacked-requires c = formed-length c.args.state.now (whole (goal.at.unpacked-requires c).Else-not-formed)
-
 pub put_answer-requires : goal.put_answer-requires
 put_answer-requires c =
     let a = c.args in
@@ -36,9 +26,7 @@ put_answer-requires c =
 
 pub returns : goal.returns
 returns c =
-    let k = c in
-    let f = k in
-    let a = f.args in
-    ask_in a.state.now a.slot true (whole (goal.at.returns f).Else-not-formed) c.put_answer.result c.put_answer.new.answer
-    (c.put_answer.ensures.0 ∙ (answers (goal.at.returns k).After-ask).number)
-    (c.put_answer.ensures.1 ∙ ap (λ x. asked_row (answer_seen x)) (answers (goal.at.returns k).After-ask).answer ∙ ap asked_row (line_back (unpacked a.state.now) a.slot))
+    let a = c.args in
+    ask_in a.state.now a.slot true (whole (goal.at.returns c).Else-not-formed) c.put_answer.result c.put_answer.new.answer
+    (c.put_answer.ensures.0 ∙ (answers (goal.at.returns c).After-ask).number)
+    (c.put_answer.ensures.1 ∙ ap (λ x. asked_row (answer_seen x)) (answers (goal.at.returns c).After-ask).answer ∙ ap asked_row (line_back (unpacked a.state.now) a.slot))

@@ -25,23 +25,19 @@ returns-then-number-ne0 c = let k = c in let a = k.args in fresh-refused a.setup
 
 pub returns-then-state-ne-SIZE : goal.returns-then-state-ne-SIZE
 returns-then-state-ne-SIZE c =
-    let k = c in
-    let a = k.args in
-    fresh_unfit a.setup.now k.fresh-made.result (made (goal.at.returns-then-state-ne-SIZE k).After-number-number) a.state.now (sym k.number-number.ensures ∙ c.if-number-ne0.false) c.if-state-ne-SIZE.true
+    let a = c.args in
+    fresh_unfit a.setup.now c.fresh-made.result (made (goal.at.returns-then-state-ne-SIZE c).After-number-number) a.state.now (sym c.number-number.ensures ∙ c.if-number-ne0.false) c.if-state-ne-SIZE.true
 
 pub put_state-requires : goal.put_state-requires
 put_state-requires c =
-    let k = c in
-    let s = k.fresh-made.result.state in
-    let g = fresh-ready k.args.setup.now k.fresh-made.result (made (goal.at.put_state-requires k).After-number-number) (sym k.number-number.ensures ∙ c.if-number-ne0.false) in
+    let s = c.fresh-made.result.state in
+    let g = fresh-ready c.args.setup.now c.fresh-made.result (made (goal.at.put_state-requires c).After-number-number) (sym c.number-number.ensures ∙ c.if-number-ne0.false) in
     (c.if-state-ne-SIZE.false, omega (arith, g.few), good-n s.reader g.good, good-slot s.reader g.good)
 
 pub returns : goal.returns
 returns c =
-    let p = c in
-    let k = p in
-    let a = k.args in
-    fresh-stored a.setup.now k.fresh-made.result (made (goal.at.returns k).After-number-number) a.state.now p.put_state.new.b
-    (sym k.number-number.ensures ∙ p.if-number-ne0.false)
-    p.if-state-ne-SIZE.false
-    p.put_state.ensures
+    let a = c.args in
+    fresh-stored a.setup.now c.fresh-made.result (made (goal.at.returns c).After-number-number) a.state.now c.put_state.new.b
+    (sym c.number-number.ensures ∙ c.if-number-ne0.false)
+    c.if-state-ne-SIZE.false
+    c.put_state.ensures

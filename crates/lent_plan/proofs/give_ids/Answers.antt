@@ -3,15 +3,15 @@ use borrow.Author.Rules.{rules}
 use mathlib.Core.Path.{◌≡◌, refl, sym, ap, ap₂, subst, ◌∙◌}
 use mathlib.Core.Bool.{true, false, ◌&&◌}
 use mathlib.Core.List.{List, [], ◌∷◌, ◌++◌}
-use Prim.Native.Nat.{ℕ, ◌<◌, ◌≤◌, ◌+◌, ◌-◌, ◌*◌}
+use Prim.Native.Nat.{ℕ, ◌<◌, ◌+◌, ◌-◌, ◌*◌}
 use native.Mathlib.Numerals.{add-one}
 use native.Mathlib.Omega.{arith}
 use lib.Bits.{bit_or}
 use lib.IntN.{ℤ, pos}
 use lib.ListN.{length, take, drop, set, length-set}
-use lib.Seq.{length-take-le, take-suc-set}
+use lib.Seq.{take-suc-set}
 use mir.Syntax.{w32}
-use mir.Val.{SFits}
+use mir.Val.{SFits, of_z, to_z}
 use mir.ValLaws.{to_z-of_z}
 use Rattle.model.specs.Panel.{per_slot, records}
 use Rattle.model.specs.Numbers.{eq_z}
@@ -23,13 +23,14 @@ use Rattle.common.specs.declared.TrackingId.{TrackingId}
 use Rattle.common.specs.Marks.{bit_of, Met}
 use Rattle.common.proofs.Apart.{front_holds, met_join}
 use Rattle.common.proofs.Signs.{first-false, first-true}
+use Rattle.panel.specs.declared.Slot.{Slot}
 use Rattle.panel.specs.declared.Setup.{Setup}
 use Rattle.panel.specs.Seen.{slot_of, table_of, axes_of, unused}
 use Rattle.panel.proofs.Setups.{small}
 use Rattle.panel.proofs.Tables.{good-rest}
 use Rattle.tally.specs.declared.Changed.{Changed}
 use Rattle.tally.specs.Told.{Tells}
-use Rattle.plan.specs.Row.{begun, contact_of, stayed, plain_row}
+use Rattle.plan.specs.Row.{begun, contact_of, stayed}
 use Rattle.plan.specs.Quiet.{NextLoud}
 use Rattle.plan.specs.Walk.{rows_good, plan_from}
 use Rattle.plan.proofs.Turn as Turn
@@ -40,7 +41,7 @@ use Rattle.lent_table.proofs.Read.{full as table_long}
 use Rattle.lent_plan.proofs.Passed.{passed}
 use Rattle.lent_plan.proofs.Turned.{Next, tells-set, plan-on, plan_steady}
 use Rattle.lent_plan.proofs.give_ids.Invariants.{Made}
-use Rattle.lent_plan.proofs.give_ids.Goals.{After-after-k, After-row_ok, After-slice_known-else-begins-1, After-slot_of-was, At-loop-s}
+use Rattle.lent_plan.proofs.give_ids.Goals.{After-slot_of-was}
 use Rattle.lent_plan.proofs.give_ids.Goals as goal
 
 -- ---- slot s and its row
@@ -48,304 +49,70 @@ use Rattle.lent_plan.proofs.give_ids.Goals as goal
 abbrev u : After-slot_of-was → Setup
 u b = b.args.setup
 
-abbrev u-at-After-row_ok : After-row_ok → Setup
-u-at-After-row_ok b = b.args.setup
-
-abbrev u-at-After-after-k : After-after-k → Setup
-u-at-After-after-k b = b.args.setup
-
-abbrev u-at-After-slice_known-else-begins-1 : After-slice_known-else-begins-1 → Setup
-u-at-After-slice_known-else-begins-1 b = b.args.setup
-
 abbrev fr : After-slot_of-was → List ℤ
 fr b = b.args.frame.now
 
-abbrev fr-at-After-row_ok : After-row_ok → List ℤ
-fr-at-After-row_ok b = b.args.frame.now
-
-abbrev fr-at-After-after-k : After-after-k → List ℤ
-fr-at-After-after-k b = b.args.frame.now
-
-abbrev fr-at-After-slice_known-else-begins-1 : After-slice_known-else-begins-1 → List ℤ
-fr-at-After-slice_known-else-begins-1 b = b.args.frame.now
-
-abbrev n : After-slot_of-was → ℕ
-n b = (u b).n
-
-abbrev n-at-After-after-k : After-after-k → ℕ
-n-at-After-after-k b = (u-at-After-after-k b).n
-
-abbrev n-at-After-slice_known-else-begins-1 : After-slice_known-else-begins-1 → ℕ
-n-at-After-slice_known-else-begins-1 b = (u-at-After-slice_known-else-begins-1 b).n
+abbrev old : After-slot_of-was → List Slot
+old b = table_in b.args.old.now
 
 abbrev s : After-slot_of-was → ℕ
 s b = b.loop-s.s
 
-abbrev s-at-After-row_ok : After-row_ok → ℕ
-s-at-After-row_ok b = b.loop-s.s
+abbrev kind : After-slot_of-was → ℤ
+kind b = Turn.kind (fr b) (s b)
 
-abbrev s-at-After-after-k : After-after-k → ℕ
-s-at-After-after-k b = b.loop-s.s
+abbrev row : After-slot_of-was → List ℤ
+row b = Turn.row (fr b) (s b)
 
-abbrev s-at-After-slice_known-else-begins-1 : After-slice_known-else-begins-1 → ℕ
-s-at-After-slice_known-else-begins-1 b = b.loop-s.s
+-- The ids taken so far, and the next free one.
+abbrev ids_taken : After-slot_of-was → List ℤ
+ids_taken b = take b.loop-s.m b.loop-s.taken
 
-abbrev promised-at-After-slot_of-was : After-slot_of-was → Planned
-promised-at-After-slot_of-was l =
-    let a = l.args in
-    plan_from (take a.setup.n l.ids_of-taken.result) a.counter a.setup.n a.frame.now (table_in a.t.now) a.from.slot
+abbrev free : After-slot_of-was → ℕ
+free b = free_id (ids_taken b) b.loop-s.k
 
 -- What was to be planned from the start.
-abbrev promised : At-loop-s → Planned
-promised l =
-    let a = l.args in
-    plan_from (take a.setup.n l.ids_of-taken.result) a.counter a.setup.n a.frame.now (table_in a.t.now) a.from.slot
+abbrev promised : After-slot_of-was → Planned
+promised b =
+    let a = b.args in
+    plan_from (take a.setup.n b.ids_of-taken.result) a.counter a.setup.n a.frame.now (table_in a.t.now) a.from.slot
 
-abbrev promised-at-After-after-k : After-after-k → Planned
-promised-at-After-after-k l =
-    let a = l.args in
-    plan_from (take a.setup.n l.ids_of-taken.result) a.counter a.setup.n a.frame.now (table_in a.t.now) a.from.slot
+-- All is known up to slot r.
+abbrev MadeAt : After-slot_of-was → List ℤ → ℕ → ℕ → List Slot → ℕ → ℕ → Changed → Type 0
+MadeAt b taken held m l k r c = Made (u b) (old b) (fr b) b.args.from.slot (promised b) taken held m l k r c
 
-abbrev promised-at-After-slice_known-else-begins-1 : After-slice_known-else-begins-1 → Planned
-promised-at-After-slice_known-else-begins-1 l =
-    let a = l.args in
-    plan_from (take a.setup.n l.ids_of-taken.result) a.counter a.setup.n a.frame.now (table_in a.t.now) a.from.slot
-
-known-at-After-slot_of-was : (l : After-slot_of-was) → (let a = l.args in Made a.setup (table_in a.old.now) a.frame.now a.from.slot (promised-at-After-slot_of-was l) l.loop-s.taken l.loop-s.held l.loop-s.m (table_in l.loop-s.t) l.loop-s.k l.loop-s.s l.loop-s.changes)
-known-at-After-slot_of-was l = l.loop-s.invariant.1
-
-known : (l : At-loop-s) → (let a = l.args in Made a.setup (table_in a.old.now) a.frame.now a.from.slot (promised l) l.loop-s.taken l.loop-s.held l.loop-s.m (table_in l.loop-s.t) l.loop-s.k l.loop-s.s l.loop-s.changes)
-known l = l.loop-s.invariant.1
-
-known-at-After-after-k : (l : After-after-k) → (let a = l.args in Made a.setup (table_in a.old.now) a.frame.now a.from.slot (promised-at-After-after-k l) l.loop-s.taken l.loop-s.held l.loop-s.m (table_in l.loop-s.t) l.loop-s.k l.loop-s.s l.loop-s.changes)
-known-at-After-after-k l = l.loop-s.invariant.1
-
-known-at-After-slice_known-else-begins-1 : (l : After-slice_known-else-begins-1) → (let a = l.args in Made a.setup (table_in a.old.now) a.frame.now a.from.slot (promised-at-After-slice_known-else-begins-1 l) l.loop-s.taken l.loop-s.held l.loop-s.m (table_in l.loop-s.t) l.loop-s.k l.loop-s.s l.loop-s.changes)
-known-at-After-slice_known-else-begins-1 l = l.loop-s.invariant.1
-
-few : (l : At-loop-s) → l.args.setup.n ≤ records
-few l = (small l.args.setup l.requires.left.given.setup).n
-
-few-at-After-slot_of-was : (l : After-slot_of-was) → l.args.setup.n ≤ records
-few-at-After-slot_of-was l = (small l.args.setup l.requires.left.given.setup).n
-
-few-at-After-after-k : (l : After-after-k) → l.args.setup.n ≤ records
-few-at-After-after-k l = (small l.args.setup l.requires.left.given.setup).n
-
-below : (b : After-slot_of-was) → s b < n b
-below b = b.loop-s-test.true
-
-below-at-After-after-k : (b : After-after-k) → s-at-After-after-k b < n-at-After-after-k b
-below-at-After-after-k b = b.loop-s-test.true
-
-below-at-After-slice_known-else-begins-1 : (b : After-slice_known-else-begins-1) → s-at-After-slice_known-else-begins-1 b < n-at-After-slice_known-else-begins-1 b
-below-at-After-slice_known-else-begins-1 b = b.loop-s-test.true
-
-at-at-After-after-k : (b : After-after-k) → Next (u-at-After-after-k b) (table_in b.args.old.now) (table_in b.loop-s.t) b.args.counter (fr-at-After-after-k b) (s-at-After-after-k b) b.loop-s.changes b.slot_of-was.result
-at-at-After-after-k b = record {
+at : (b : After-slot_of-was) → Next (u b) (old b) (table_in b.loop-s.t) b.args.counter (fr b) (s b) b.loop-s.changes b.slot_of-was.result
+at b = record {
   given = b.requires.left.given;
   old_long = table_long b.args.old.now;
   long = table_long b.loop-s.t;
-  below = below-at-After-after-k b;
-  tells = (known-at-After-after-k b).tells;
-  is = b.slot_of-was.ensures;
-}
-
-at-at-After-slice_known-else-begins-1 : (b : After-slice_known-else-begins-1) → Next (u-at-After-slice_known-else-begins-1 b) (table_in b.args.old.now) (table_in b.loop-s.t) b.args.counter (fr-at-After-slice_known-else-begins-1 b) (s-at-After-slice_known-else-begins-1 b) b.loop-s.changes b.slot_of-was.result
-at-at-After-slice_known-else-begins-1 b = record {
-  given = b.requires.left.given;
-  old_long = table_long b.args.old.now;
-  long = table_long b.loop-s.t;
-  below = below-at-After-slice_known-else-begins-1 b;
-  tells = (known-at-After-slice_known-else-begins-1 b).tells;
+  below = b.loop-s-test.true;
+  tells = b.loop-s.invariant.1.tells;
   is = b.slot_of-was.ensures;
 }
 
 -- There is a place left among the taken ids.
 placed : (b : After-slot_of-was) → b.loop-s.m < length b.loop-s.taken
-placed b = omega (arith, below b, (known-at-After-slot_of-was b).few_taken, (known-at-After-slot_of-was b).places, few-at-After-slot_of-was b)
+placed b = omega (arith, b.loop-s-test.true, b.loop-s.invariant.1.few_taken, b.loop-s.invariant.1.places, b.loop-s.invariant.1.few)
 
-placed-at-After-after-k : (b : After-after-k) → b.loop-s.m < length b.loop-s.taken
-placed-at-After-after-k b = omega (arith, below-at-After-after-k b, (known-at-After-after-k b).few_taken, (known-at-After-after-k b).places, few-at-After-after-k b)
+-- The row's kind, read through its bits.
+own-kind : (b : After-slot_of-was) → to_z w32 (of_z w32 b.row_at-r.result.first) ≡ kind b
+own-kind b =
+    let k = b.row_at-r.result.first in
+    let f : SFits w32 k = search rules in
+    to_z-of_z w32 k f ∙ ap kind_of b.row_at-r.ensures
 
 -- Rows that are good up to here are good where this one is and the rest.
-good-here : (b : After-slot_of-was) → rows_good (u b) (fr b) b.args.from.slot ≡ (good_row (axes_of (u b)) (Turn.row (fr b) (s b)) && rows_good (u b) (fr b) (s b + 1))
-good-here b = (known-at-After-slot_of-was b).good ∙ Turn.good_turn (fr b) (s b) (n b) (below b) (u b)
-
-good-here-at-After-after-k : (b : After-after-k) → rows_good (u-at-After-after-k b) (fr-at-After-after-k b) b.args.from.slot ≡ (good_row (axes_of (u-at-After-after-k b)) (Turn.row (fr-at-After-after-k b) (s-at-After-after-k b)) && rows_good (u-at-After-after-k b) (fr-at-After-after-k b) (s-at-After-after-k b + 1))
-good-here-at-After-after-k b = (known-at-After-after-k b).good ∙ Turn.good_turn (fr-at-After-after-k b) (s-at-After-after-k b) (n-at-After-after-k b) (below-at-After-after-k b) (u-at-After-after-k b)
-
-good-here-at-After-slice_known-else-begins-1 : (b : After-slice_known-else-begins-1) → rows_good (u-at-After-slice_known-else-begins-1 b) (fr-at-After-slice_known-else-begins-1 b) b.args.from.slot ≡ (good_row (axes_of (u-at-After-slice_known-else-begins-1 b)) (Turn.row (fr-at-After-slice_known-else-begins-1 b) (s-at-After-slice_known-else-begins-1 b)) && rows_good (u-at-After-slice_known-else-begins-1 b) (fr-at-After-slice_known-else-begins-1 b) (s-at-After-slice_known-else-begins-1 b + 1))
-good-here-at-After-slice_known-else-begins-1 b = (known-at-After-slice_known-else-begins-1 b).good ∙ Turn.good_turn (fr-at-After-slice_known-else-begins-1 b) (s-at-After-slice_known-else-begins-1 b) (n-at-After-slice_known-else-begins-1 b) (below-at-After-slice_known-else-begins-1 b) (u-at-After-slice_known-else-begins-1 b)
-
-good-on-at-After-after-k : (b : After-after-k) → good_row (axes_of (u-at-After-after-k b)) (Turn.row (fr-at-After-after-k b) (s-at-After-after-k b)) ≡ true → rows_good (u-at-After-after-k b) (fr-at-After-after-k b) b.args.from.slot ≡ rows_good (u-at-After-after-k b) (fr-at-After-after-k b) (s-at-After-after-k b + 1)
-good-on-at-After-after-k b e = good-here-at-After-after-k b ∙ first-true _ _ e
-
-good-on-at-After-slice_known-else-begins-1 : (b : After-slice_known-else-begins-1) → good_row (axes_of (u-at-After-slice_known-else-begins-1 b)) (Turn.row (fr-at-After-slice_known-else-begins-1 b) (s-at-After-slice_known-else-begins-1 b)) ≡ true → rows_good (u-at-After-slice_known-else-begins-1 b) (fr-at-After-slice_known-else-begins-1 b) b.args.from.slot ≡ rows_good (u-at-After-slice_known-else-begins-1 b) (fr-at-After-slice_known-else-begins-1 b) (s-at-After-slice_known-else-begins-1 b + 1)
-good-on-at-After-slice_known-else-begins-1 b e = good-here-at-After-slice_known-else-begins-1 b ∙ first-true _ _ e
-
-row-judged : (j : After-row_ok) → j.row_ok.result ≡ good_row (axes_of (u-at-After-row_ok j)) (Turn.row (fr-at-After-row_ok j) (s-at-After-row_ok j))
-row-judged j = j.row_ok.ensures ∙ ap (good_row (axes_of (u-at-After-row_ok j))) j.row_at-r.ensures
-
-row-judged-at-After-after-k : (j : After-after-k) → j.row_ok.result ≡ good_row (axes_of (u-at-After-after-k j)) (Turn.row (fr-at-After-after-k j) (s-at-After-after-k j))
-row-judged-at-After-after-k j = j.row_ok.ensures ∙ ap (good_row (axes_of (u-at-After-after-k j))) j.row_at-r.ensures
-
-row-judged-at-After-slice_known-else-begins-1 : (j : After-slice_known-else-begins-1) → j.row_ok.result ≡ good_row (axes_of (u-at-After-slice_known-else-begins-1 j)) (Turn.row (fr-at-After-slice_known-else-begins-1 j) (s-at-After-slice_known-else-begins-1 j))
-row-judged-at-After-slice_known-else-begins-1 j = j.row_ok.ensures ∙ ap (good_row (axes_of (u-at-After-slice_known-else-begins-1 j))) j.row_at-r.ensures
-
-good-row-at-After-after-k : (d : After-after-k) → good_row (axes_of (u-at-After-after-k d)) (Turn.row (fr-at-After-after-k d) (s-at-After-after-k d)) ≡ true
-good-row-at-After-after-k d =
-    let j = d in
-    sym (row-judged-at-After-after-k j) ∙ d.if-not-row_ok.false
-
-good-row-at-After-slice_known-else-begins-1 : (d : After-slice_known-else-begins-1) → good_row (axes_of (u-at-After-slice_known-else-begins-1 d)) (Turn.row (fr-at-After-slice_known-else-begins-1 d) (s-at-After-slice_known-else-begins-1 d)) ≡ true
-good-row-at-After-slice_known-else-begins-1 d =
-    let j = d in
-    sym (row-judged-at-After-slice_known-else-begins-1 j) ∙ d.if-not-row_ok.false
-
-plain-at-After-after-k : (d : After-after-k) → plain_row (Turn.row (fr-at-After-after-k d) (s-at-After-after-k d)) ≡ true
-plain-at-After-after-k d = good-plain (u-at-After-after-k d) (Turn.row (fr-at-After-after-k d) (s-at-After-after-k d)) (good-row-at-After-after-k d)
-
-plain-at-After-slice_known-else-begins-1 : (d : After-slice_known-else-begins-1) → plain_row (Turn.row (fr-at-After-slice_known-else-begins-1 d) (s-at-After-slice_known-else-begins-1 d)) ≡ true
-plain-at-After-slice_known-else-begins-1 d = good-plain (u-at-After-slice_known-else-begins-1 d) (Turn.row (fr-at-After-slice_known-else-begins-1 d) (s-at-After-slice_known-else-begins-1 d)) (good-row-at-After-slice_known-else-begins-1 d)
-
-begins-is-at-After-after-k : (d : After-after-k) → d.begins.result ≡ begun (fate (Turn.kind (fr-at-After-after-k d) (s-at-After-after-k d)) d.slot_of-was.result.id.0)
-begins-is-at-After-after-k d =
-    let b = d in
-    let k = b.row_at-r.result.first in
-    let f : SFits w32 k = search rules in
-    d.begins.ensures ∙ ap (λ z. begun (fate z b.slot_of-was.result.id.0)) (to_z-of_z w32 k f ∙ ap kind_of b.row_at-r.ensures)
-
-begins-is-at-After-slice_known-else-begins-1 : (d : After-slice_known-else-begins-1) → d.begins.result ≡ begun (fate (Turn.kind (fr-at-After-slice_known-else-begins-1 d) (s-at-After-slice_known-else-begins-1 d)) d.slot_of-was.result.id.0)
-begins-is-at-After-slice_known-else-begins-1 d =
-    let b = d in
-    let k = b.row_at-r.result.first in
-    let f : SFits w32 k = search rules in
-    d.begins.ensures ∙ ap (λ z. begun (fate z b.slot_of-was.result.id.0)) (to_z-of_z w32 k f ∙ ap kind_of b.row_at-r.ensures)
-
--- ---- the needs
-
-pub ids_of-taken-requires : goal.ids_of-taken-requires
-ids_of-taken-requires c =
-    let st = c in
-    ((small st.args.setup st.requires.left.given.setup).n, st.requires.old_size)
-
-pub slice_bounds-taken-end : goal.slice_bounds-taken-end
-slice_bounds-taken-end c =
-    let st = c in
-    let ll : length c.ids_of-taken.result ≡ 2 * records = search rules in
-    omega (arith, (small st.args.setup st.requires.left.given.setup).n)
-
-pub slice_bounds-marks_of-end : goal.slice_bounds-marks_of-end
-slice_bounds-marks_of-end c =
-    let g = c in
-    let st = g in
-    let ll : length g.ids_of-taken.result ≡ 2 * records = search rules in
-    sym (length-take-le st.args.setup.n g.ids_of-taken.result (omega (arith, (small st.args.setup st.requires.left.given.setup).n)))
-
-pub loop-s-init : goal.loop-s-init
-loop-s-init c =
-    let g = c in
-    let st = g in
-    let p = st.requires.left in
-    let ll : length g.ids_of-taken.result ≡ 2 * records = search rules in (
-      st.requires.size,
-      record {
-        inside = p.inside;
-        few_taken = omega arith;
-        counts = p.given.counts;
-        places = ll;
-        met = c.marks_of-held.ensures;
-        good = refl;
-        whole = refl;
-        tells = p.tells;
-      },
-    )
-
-pub overflow_mul-s : goal.overflow_mul-s
-overflow_mul-s c = omega (arith, c.loop-s-test.true, few (goal.at.overflow_mul-s c).At-loop-s)
-
-pub row_at-r-requires : goal.row_at-r-requires
-row_at-r-requires c = omega (arith, c.loop-s-test.true, c.requires.left.given.size)
-
-pub slot_of-was-requires : goal.slot_of-was-requires
-slot_of-was-requires c =
-    let i = c in
-    (omega (arith, i.loop-s-test.true, few (goal.at.slot_of-was-requires i).At-loop-s), i.loop-s.invariant.0)
-
-pub row_ok-requires : goal.row_ok-requires
-row_ok-requires c =
-    let m = small (u (goal.at.row_ok-requires c).After-slot_of-was) c.requires.left.given.setup in
-    record { x = omega (arith, m.x); y = omega (arith, m.y); pressure = omega (arith, m.pressure); major = omega (arith, m.major); minor = omega (arith, m.minor) }
-
-pub shape_of-t-then-not-row_ok : goal.shape_of-t-then-not-row_ok
-shape_of-t-then-not-row_ok c =
-    let l = c in
-    l.loop-s.invariant.0 ∙ sym l.requires.size
-
-pub returns-then-not-row_ok : goal.returns-then-not-row_ok
-returns-then-not-row_ok c =
-    let j = c in
-    let b = j in
-    let a = b.args in
-    let bad = good-here (goal.at.returns-then-not-row_ok b).After-slot_of-was ∙ first-false _ _ (sym (row-judged (goal.at.returns-then-not-row_ok j).After-row_ok) ∙ c.if-not-row_ok.true) in
-    subst (λ v. PlansIn v (n (goal.at.returns-then-not-row_ok b).After-slot_of-was) (table_in b.args.old.now) a.counter (plan_from (ids (table_of (table_in b.args.old.now))) a.counter (n (goal.at.returns-then-not-row_ok b).After-slot_of-was) (fr (goal.at.returns-then-not-row_ok b).After-slot_of-was) (table_in a.t.now) a.from.slot) c.refused.result (table_in b.loop-s.t)) (sym bad) c.refused.ensures
-
-pub slice_bounds-taken-end-then-begins : goal.slice_bounds-taken-end-then-begins
-slice_bounds-taken-end-then-begins c = omega (arith, placed (goal.at.slice_bounds-taken-end-then-begins c).After-slot_of-was)
-
-pub slice_bounds-choose-end : goal.slice_bounds-choose-end
-slice_bounds-choose-end c =
-    let b = c in
-    let fit : b.loop-s.m ≤ length b.loop-s.taken = omega (arith, placed (goal.at.slice_bounds-choose-end b).After-slot_of-was) in
-    sym (length-take-le b.loop-s.m b.loop-s.taken fit)
-
-pub choose-j-requires : goal.choose-j-requires
-choose-j-requires c =
-    let b = c in
-    let k = known (goal.at.choose-j-requires b).At-loop-s in
-    let fit : b.loop-s.m ≤ length b.loop-s.taken = omega (arith, placed (goal.at.choose-j-requires b).After-slot_of-was) in
-    let long : length (take b.loop-s.m b.loop-s.taken) ≡ b.loop-s.m = length-take-le b.loop-s.m b.loop-s.taken fit in
-    (omega (arith, placed (goal.at.choose-j-requires b).After-slot_of-was, k.places, long), k.counts, k.met)
-
-pub id_of-v-requires : goal.id_of-v-requires
-id_of-v-requires c = c.choose-j.ensures.0
-
-pub make-changes-requires : goal.make-changes-requires
-make-changes-requires c =
-    let b = c in
-    (omega (arith, below (goal.at.make-changes-requires b).After-slot_of-was, few (goal.at.make-changes-requires b).At-loop-s), b.loop-s.invariant.0, (known (goal.at.make-changes-requires b).At-loop-s).tells.before)
-
-pub offset_bounds-taken-m : goal.offset_bounds-taken-m
-offset_bounds-taken-m c =
-    let b = c in
-    omega (arith, placed (goal.at.offset_bounds-taken-m b).After-slot_of-was, (known (goal.at.offset_bounds-taken-m b).At-loop-s).places)
-
-pub bounds-taken-m : goal.bounds-taken-m
-bounds-taken-m c =
-    let b = c in
-    omega (arith, placed (goal.at.bounds-taken-m b).After-slot_of-was, (known (goal.at.bounds-taken-m b).At-loop-s).places)
-
-pub mark_of-held-requires : goal.mark_of-held-requires
-mark_of-held-requires c = c.choose-j.ensures.0
-
-pub overflow_add-m : goal.overflow_add-m
-overflow_add-m c =
-    let b = c in
-    omega (arith, placed (goal.at.overflow_add-m b).After-slot_of-was, (known (goal.at.overflow_add-m b).At-loop-s).places)
-
-pub after-k-requires : goal.after-k-requires
-after-k-requires c = c.choose-j.ensures.0
+good-here : (b : After-slot_of-was) → rows_good (u b) (fr b) b.args.from.slot ≡ (good_row (axes_of (u b)) (row b) && rows_good (u b) (fr b) (s b + 1))
+good-here b = b.loop-s.invariant.1.good ∙ Turn.good_turn (fr b) (s b) (u b).n b.loop-s-test.true (u b)
 
 -- Rows that are passed over leave all that is known as it is.
-jump : (b : After-slot_of-was) (taken : List ℤ) (held m : ℕ) (t : List ℕ) (k s : ℕ) (c : Changed) (r : ℕ)
-    → (let f = b.args.from.slot in Made (u b) (table_in b.args.old.now) (fr b) f (promised-at-After-slot_of-was b) taken held m (table_in t) k s c → NextLoud s (n b) (table_in t) (fr b) r
-    → Made (u b) (table_in b.args.old.now) (fr b) f (promised-at-After-slot_of-was b) taken held m (table_in t) k r c)
-jump b taken held m t k s c r g x =
-    let a = b in
-    let p = passed (u b) (table_in b.args.old.now) (table_in t) a.args.counter (fr b) c a.requires.left.given (table_long a.args.old.now) (table_long t) (take m taken) k s r x g.tells in
+jump : (b : After-slot_of-was) (taken : List ℤ) (held m : ℕ) (l : List ℕ) (k v : ℕ) (c : Changed) (r : ℕ) → MadeAt b taken held m (table_in l) k v c → NextLoud v (u b).n (table_in l) (fr b) r → MadeAt b taken held m (table_in l) k r c
+jump b taken held m l k v c r g x =
+    let p = passed (u b) (old b) (table_in l) b.args.counter (fr b) c b.requires.left.given (table_long b.args.old.now) (table_long l) (take m taken) k v r x g.tells in
     record {
       inside = x.inside;
+      few = g.few;
       few_taken = omega (arith, g.few_taken, x.after);
       counts = g.counts;
       places = g.places;
@@ -355,136 +122,97 @@ jump b taken held m t k s c r g x =
       tells = p.tells;
     }
 
+-- ---- the needs
+
+pub row_ok-requires : goal.row_ok-requires
+row_ok-requires c =
+    let m = small c.args.setup c.requires.left.given.setup in
+    record { x = omega (arith, m.x); y = omega (arith, m.y); pressure = omega (arith, m.pressure); major = omega (arith, m.major); minor = omega (arith, m.minor) }
+
+pub returns-then-not-row_ok : goal.returns-then-not-row_ok
+returns-then-not-row_ok c =
+    let b = (goal.at.returns-then-not-row_ok c).After-slot_of-was in
+    let a = c.args in
+    let judged = c.row_ok.ensures ∙ ap (good_row (axes_of (u b))) c.row_at-r.ensures in
+    let bad = good-here b ∙ first-false _ _ (sym judged ∙ c.if-not-row_ok.true) in
+    let all = plan_from (ids (table_of (old b))) a.counter a.setup.n (fr b) (table_in a.t.now) a.from.slot in
+    subst (λ v. PlansIn v a.setup.n (old b) a.counter all c.refused.result (table_in c.loop-s.t)) (sym bad) c.refused.ensures
+
 -- The slot is made, and its id taken.
-id-is : (c : After-after-k) → c.id_of-v.result.0 ≡ pos (free_id (take c.loop-s.m c.loop-s.taken) c.loop-s.k)
-id-is c = ap (λ (x : TrackingId). x.0) c.id_of-v.ensures ∙ ap pos c.choose-j.ensures.1
-
-made-begun : (c : After-after-k) → (let b = c in let g = b.loop-s in
-    Made (u-at-After-after-k b) (table_in b.args.old.now) (fr-at-After-after-k b) b.args.from.slot (promised-at-After-after-k b) (set g.taken g.m (pos (free_id (take b.loop-s.m b.loop-s.taken) b.loop-s.k))) (bit_or g.held c.mark_of-held.result) (g.m + 1) (table_in c.make-changes.new.t) c.after-k.result (s-at-After-after-k b + 1) c.make-changes.result)
-made-begun c =
-    let d = c in
-    let b = d in
-    let g = known-at-After-after-k b in
-    let j = (free_id (take b.loop-s.m b.loop-s.taken) b.loop-s.k) in
-    let yes : begun (fate (Turn.kind (fr-at-After-after-k b) (s-at-After-after-k b)) b.slot_of-was.result.id.0) ≡ true = sym (begins-is-at-After-after-k d) ∙ c.if-begins.true in
-    let ji : c.choose-j.result ≡ j = c.choose-j.ensures.1 in
-    let w = c.contact.result in
-    let e : w ≡ contact_of (pos j) (Turn.row (fr-at-After-after-k b) (s-at-After-after-k b)) = c.contact.ensures ∙ ap₂ contact_of (id-is c) b.row_at-r.ensures in
-    let l = c.make-changes.new.t in
-    let put : table_in l ≡ set (table_in b.loop-s.t) (s-at-After-after-k b) w = c.make-changes.ensures.1 in
-    let m = b.loop-s.m in
-    let more = take (m + 1) (set b.loop-s.taken m (pos j)) in
-    let last : more ≡ (take b.loop-s.m b.loop-s.taken) ++ pos j ∷ [] = rw add-one (take-suc-set b.loop-s.taken m (pos j) (placed-at-After-after-k b)) in
-    let same : Same (taken_after (fate (Turn.kind (fr-at-After-after-k b) (s-at-After-after-k b)) b.slot_of-was.result.id.0) j (take b.loop-s.m b.loop-s.taken)) more = rw (last, begun-taken (fate (Turn.kind (fr-at-After-after-k b) (s-at-After-after-k b)) b.slot_of-was.result.id.0) j (take b.loop-s.m b.loop-s.taken) yes) (same-last (pos j) (take b.loop-s.m b.loop-s.taken)) in
-    let count : counter_after (fate (Turn.kind (fr-at-After-after-k b) (s-at-After-after-k b)) b.slot_of-was.result.id.0) j b.loop-s.k ≡ c.after-k.result =
-    begun-counter (fate (Turn.kind (fr-at-After-after-k b) (s-at-After-after-k b)) b.slot_of-was.result.id.0) j b.loop-s.k yes ∙ sym (c.after-k.ensures ∙ ap next ji) in
-    let slot = ap slot_of e ∙ begun-slot b.slot_of-was.result (fr-at-After-after-k b) (per_slot * s-at-After-after-k b) j yes (plain-at-After-after-k d) in
-    let bit : c.mark_of-held.result ≡ bit_of (pos j) = c.mark_of-held.ensures ∙ ap (λ x. bit_of (pos x)) ji in
-    let met : Met (bit_or b.loop-s.held (bit_of (pos j))) more = rw last (met_join b.loop-s.held (take b.loop-s.m b.loop-s.taken) (pos j) g.met) in
-    record {
-      inside = omega (arith, below-at-After-after-k b);
-      few_taken = omega (arith, g.few_taken);
-      counts = omega (arith, c.after-k.ensures);
-      places = length-set b.loop-s.taken m (pos j) ∙ g.places;
-      met = subst (λ x. Met (bit_or b.loop-s.held x) more) (sym bit) met;
-      good = good-on-at-After-after-k b (good-row-at-After-after-k d);
-      whole = g.whole ∙ plan-on (at-at-After-after-k b) (take b.loop-s.m b.loop-s.taken) b.loop-s.k w more c.after-k.result slot same count ∙ ap (λ x. plan_from more c.after-k.result (n-at-After-after-k b) (fr-at-After-after-k b) x (s-at-After-after-k b + 1)) (sym put);
-      tells = tells-set (at-at-After-after-k b) w (table_in l) put c.make-changes.result c.make-changes.ensures.0;
-    }
-
-pub overflow_add-s : goal.overflow_add-s
-overflow_add-s c =
-    let b = c in
-    omega (arith, below (goal.at.overflow_add-s b).After-slot_of-was, few (goal.at.overflow_add-s b).At-loop-s)
-
-pub next_loud-s-requires : goal.next_loud-s-requires
-next_loud-s-requires c =
-    let b = c in
-    let l = c.make-changes.new.t in
-    let long : length l ≡ table_size = omega (arith, b.loop-s.invariant.0) in
-    (few (goal.at.next_loud-s-requires b).At-loop-s, long, b.requires.left.given.size, omega (arith, below (goal.at.next_loud-s-requires b).After-slot_of-was))
-
-pub loop-s-smaller-then-begins : goal.loop-s-smaller-then-begins
-loop-s-smaller-then-begins c =
-    let b = c in
-    omega (arith, below (goal.at.loop-s-smaller-then-begins b).After-slot_of-was, c.next_loud-s.ensures.after)
-
 pub loop-s-preserved-then-begins : goal.loop-s-preserved-then-begins
 loop-s-preserved-then-begins c =
-    let g = c in
-    let b = g in
-    let id = g.id_of-v.result.0 in
+    let b = (goal.at.loop-s-preserved-then-begins c).After-slot_of-was in
+    let g = c.loop-s.invariant.1 in
+    let was = c.slot_of-was.result in
+    let f = fate (kind b) was.id.0 in
+    let j = free b in
+    let m = c.loop-s.m in
+    let k = c.after-k.result in
+    let ji : c.choose-j.result ≡ j = c.choose-j.ensures.1 in
+    let v : c.id_of-v.result.0 ≡ pos j = ap (λ (x : TrackingId). x.0) c.id_of-v.ensures ∙ ap pos ji in
+    let yes : begun f ≡ true = sym (c.begins.ensures ∙ ap (λ z. begun (fate z was.id.0)) (own-kind b)) ∙ c.if-begins.true in
+    let good : good_row (axes_of (u b)) (row b) ≡ true = sym (c.row_ok.ensures ∙ ap (good_row (axes_of (u b))) c.row_at-r.ensures) ∙ c.if-not-row_ok.false in
+    let w = c.contact.result in
+    let e : w ≡ contact_of (pos j) (row b) = c.contact.ensures ∙ ap₂ contact_of v c.row_at-r.ensures in
+    let l = c.make-changes.new.t in
+    let d = c.make-changes.result in
+    let put : table_in l ≡ set (table_in c.loop-s.t) (s b) w = c.make-changes.ensures.1 in
+    let more = take (m + 1) (set c.loop-s.taken m (pos j)) in
+    let last : more ≡ ids_taken b ++ pos j ∷ [] = rw add-one (take-suc-set c.loop-s.taken m (pos j) (placed b)) in
+    let same : Same (taken_after f j (ids_taken b)) more = rw (last, begun-taken f j (ids_taken b) yes) (same-last (pos j) (ids_taken b)) in
+    let count : counter_after f j c.loop-s.k ≡ k = begun-counter f j c.loop-s.k yes ∙ sym (c.after-k.ensures ∙ ap next ji) in
+    let slot = ap slot_of e ∙ begun-slot was (fr b) (per_slot * s b) j yes (good-plain (u b) (row b) good) in
+    let bit : c.mark_of-held.result ≡ bit_of (pos j) = c.mark_of-held.ensures ∙ ap (λ x. bit_of (pos x)) ji in
+    let met : Met (bit_or c.loop-s.held (bit_of (pos j))) more = rw last (met_join c.loop-s.held (ids_taken b) (pos j) g.met) in
+    let made : MadeAt b (set c.loop-s.taken m (pos j)) (bit_or c.loop-s.held c.mark_of-held.result) (m + 1) (table_in l) k (s b + 1) d = record {
+      inside = omega (arith, c.loop-s-test.true);
+      few = g.few;
+      few_taken = omega (arith, g.few_taken);
+      counts = omega (arith, c.after-k.ensures);
+      places = length-set c.loop-s.taken m (pos j) ∙ g.places;
+      met = subst (λ x. Met (bit_or c.loop-s.held x) more) (sym bit) met;
+      good = good-here b ∙ first-true _ _ good;
+      whole = g.whole ∙ plan-on (at b) (ids_taken b) c.loop-s.k w more k slot same count ∙ ap (λ x. plan_from more k (u b).n (fr b) x (s b + 1)) (sym put);
+      tells = tells-set (at b) w (table_in l) put d c.make-changes.ensures.0;
+    } in
+    let id = c.id_of-v.result.0 in
     let fi : SFits w32 id = search rules in
-    let l = g.make-changes.new.t in
-    let long : length l ≡ table_size = omega (arith, b.loop-s.invariant.0) in
-    rw (to_z-of_z w32 id fi, id-is (goal.at.loop-s-preserved-then-begins g).After-after-k) (long, jump (goal.at.loop-s-preserved-then-begins b).After-slot_of-was _ _ _ l _ _ _ c.next_loud-s.result (made-begun (goal.at.loop-s-preserved-then-begins g).After-after-k) c.next_loud-s.ensures)
-
-pub make-changes-requires-else-begins : goal.make-changes-requires-else-begins
-make-changes-requires-else-begins c =
-    let b = c in
-    (omega (arith, below (goal.at.make-changes-requires-else-begins b).After-slot_of-was, few (goal.at.make-changes-requires-else-begins b).At-loop-s), b.loop-s.invariant.0, (known (goal.at.make-changes-requires-else-begins b).At-loop-s).tells.before)
+    let long : length l ≡ table_size = omega (arith, c.loop-s.invariant.0) in
+    rw (to_z-of_z w32 id fi, v) (long, jump b _ _ _ l k (s b + 1) d c.next_loud-s.result made c.next_loud-s.ensures)
 
 -- The slot is made, and no id is given.
-made-stayed : (c : After-slice_known-else-begins-1) → (let b = c in let g = b.loop-s in
-    Made (u-at-After-slice_known-else-begins-1 b) (table_in b.args.old.now) (fr-at-After-slice_known-else-begins-1 b) b.args.from.slot (promised-at-After-slice_known-else-begins-1 b) g.taken g.held g.m (table_in c.make-changes-else-begins.new.t) g.k (s-at-After-slice_known-else-begins-1 b + 1) c.make-changes-else-begins.result)
-made-stayed c =
-    let d = c in
-    let b = d in
-    let g = known-at-After-slice_known-else-begins-1 b in
-    let no : begun (fate (Turn.kind (fr-at-After-slice_known-else-begins-1 b) (s-at-After-slice_known-else-begins-1 b)) b.slot_of-was.result.id.0) ≡ false = sym (begins-is-at-After-slice_known-else-begins-1 d) ∙ c.if-begins.false in
+pub loop-s-preserved : goal.loop-s-preserved
+loop-s-preserved c =
+    let b = (goal.at.loop-s-preserved c).After-slot_of-was in
+    let g = c.loop-s.invariant.1 in
+    let was = c.slot_of-was.result in
+    let no : begun (fate (kind b) was.id.0) ≡ false = sym (c.begins.ensures ∙ ap (λ z. begun (fate z was.id.0)) (own-kind b)) ∙ c.if-begins.false in
+    let good : good_row (axes_of (u b)) (row b) ≡ true = sym (c.row_ok.ensures ∙ ap (good_row (axes_of (u b))) c.row_at-r.ensures) ∙ c.if-not-row_ok.false in
     let w = c.stays.result in
-    let e : w ≡ stayed (eq_z (Turn.kind (fr-at-After-slice_known-else-begins-1 b) (s-at-After-slice_known-else-begins-1 b)) (pos 0)) b.slot_of-was.result (Turn.row (fr-at-After-slice_known-else-begins-1 b) (s-at-After-slice_known-else-begins-1 b)) = c.stays.ensures ∙ ap (λ g. stayed (eq_z (kind_of g) (pos 0)) b.slot_of-was.result g) b.row_at-r.ensures in
-    let slot = ap slot_of e ∙ stayed-slot b.slot_of-was.result (fr-at-After-slice_known-else-begins-1 b) (per_slot * s-at-After-slice_known-else-begins-1 b) (free_id (take b.loop-s.m b.loop-s.taken) b.loop-s.k) no (plain-at-After-slice_known-else-begins-1 d) in
+    let e : w ≡ stayed (eq_z (kind b) (pos 0)) was (row b) = c.stays.ensures ∙ ap (λ r. stayed (eq_z (kind_of r) (pos 0)) was r) c.row_at-r.ensures in
+    let slot = ap slot_of e ∙ stayed-slot was (fr b) (per_slot * s b) (free b) no (good-plain (u b) (row b) good) in
     let l = c.make-changes-else-begins.new.t in
-    let put : table_in l ≡ set (table_in b.loop-s.t) (s-at-After-slice_known-else-begins-1 b) w = c.make-changes-else-begins.ensures.1 in
-    record {
-      inside = omega (arith, below-at-After-slice_known-else-begins-1 b);
+    let d = c.make-changes-else-begins.result in
+    let put : table_in l ≡ set (table_in c.loop-s.t) (s b) w = c.make-changes-else-begins.ensures.1 in
+    let made : MadeAt b c.loop-s.taken c.loop-s.held c.loop-s.m (table_in l) c.loop-s.k (s b + 1) d = record {
+      inside = omega (arith, c.loop-s-test.true);
+      few = g.few;
       few_taken = omega (arith, g.few_taken);
       counts = g.counts;
       places = g.places;
       met = g.met;
-      good = good-on-at-After-slice_known-else-begins-1 b (good-row-at-After-slice_known-else-begins-1 d);
-      whole = g.whole ∙ plan_steady (at-at-After-slice_known-else-begins-1 b) (take b.loop-s.m b.loop-s.taken) b.loop-s.k w slot no ∙ ap (λ x. plan_from (take b.loop-s.m b.loop-s.taken) b.loop-s.k (n-at-After-slice_known-else-begins-1 b) (fr-at-After-slice_known-else-begins-1 b) x (s-at-After-slice_known-else-begins-1 b + 1)) (sym put);
-      tells = tells-set (at-at-After-slice_known-else-begins-1 b) w (table_in l) put c.make-changes-else-begins.result c.make-changes-else-begins.ensures.0;
-    }
-
-pub overflow_add-s-else-begins : goal.overflow_add-s-else-begins
-overflow_add-s-else-begins c =
-    let b = c in
-    omega (arith, below (goal.at.overflow_add-s-else-begins b).After-slot_of-was, few (goal.at.overflow_add-s-else-begins b).At-loop-s)
-
-pub next_loud-s-requires-else-begins : goal.next_loud-s-requires-else-begins
-next_loud-s-requires-else-begins c =
-    let b = c in
-    let l = c.make-changes-else-begins.new.t in
-    let long : length l ≡ table_size = omega (arith, b.loop-s.invariant.0) in
-    (few (goal.at.next_loud-s-requires-else-begins b).At-loop-s, long, b.requires.left.given.size, omega (arith, below (goal.at.next_loud-s-requires-else-begins b).After-slot_of-was))
-
-pub loop-s-smaller : goal.loop-s-smaller
-loop-s-smaller c =
-    let b = c in
-    omega (arith, below (goal.at.loop-s-smaller b).After-slot_of-was, c.next_loud-s-else-begins.ensures.after)
-
-pub loop-s-preserved : goal.loop-s-preserved
-loop-s-preserved c =
-    let g = c in
-    let b = g in
-    let l = g.make-changes-else-begins.new.t in
-    let long : length l ≡ table_size = omega (arith, b.loop-s.invariant.0) in
-    (long, jump (goal.at.loop-s-preserved b).After-slot_of-was _ _ _ l _ _ _ c.next_loud-s-else-begins.result (made-stayed (goal.at.loop-s-preserved g).After-slice_known-else-begins-1) c.next_loud-s-else-begins.ensures)
-
-pub shape_of-t : goal.shape_of-t
-shape_of-t c =
-    let l = c in
-    l.loop-s.invariant.0 ∙ sym l.requires.size
+      good = good-here b ∙ first-true _ _ good;
+      whole = g.whole ∙ plan_steady (at b) (ids_taken b) c.loop-s.k w slot no ∙ ap (λ x. plan_from (ids_taken b) c.loop-s.k (u b).n (fr b) x (s b + 1)) (sym put);
+      tells = tells-set (at b) w (table_in l) put d c.make-changes-else-begins.ensures.0;
+    } in
+    let long : length l ≡ table_size = omega (arith, c.loop-s.invariant.0) in
+    (long, jump b _ _ _ l _ (s b + 1) d c.next_loud-s-else-begins.result made c.next_loud-s-else-begins.ensures)
 
 pub returns : goal.returns
 returns c =
     let l = c.loop-s in
-    let g = c in
-    let st = c in
-    let k = known (goal.at.returns c).At-loop-s in
-    let a = st.args in
+    let k = l.invariant.1 in
+    let a = c.args in
     let old = table_in a.old.now in
     let made = table_in a.t.now in
     let n = a.setup.n in
@@ -495,10 +223,10 @@ returns c =
     let over = ap (λ k. good_rows (axes_of a.setup) (rows_from per_slot k a.frame.now (per_slot * l.s))) z ∙ ap (good_rows (axes_of a.setup)) (rows_none per_slot a.frame.now (per_slot * l.s)) in
     let all = k.good ∙ over in
     -- the ids that are gathered are those of the old table
-    let rest = good-rest a.setup old (table_long a.old.now) st.requires.left.given.slots in
-    let same : Same (ids (table_of old)) (take n g.ids_of-taken.result) =
-    λ k. front_holds slot_of unused refl old n records rest (pos k) refl ∙ ap (unheld (pos k)) (sym g.ids_of-taken.ensures) in
-    let gathers = planned-same (ids (table_of old)) (take n g.ids_of-taken.result) a.counter rows (table_of (drop from made)) same in
+    let rest = good-rest a.setup old (table_long a.old.now) c.requires.left.given.slots in
+    let same : Same (ids (table_of old)) (take n c.ids_of-taken.result) =
+    λ k. front_holds slot_of unused refl old n records rest (pos k) refl ∙ ap (unheld (pos k)) (sym c.ids_of-taken.ensures) in
+    let gathers = planned-same (ids (table_of old)) (take n c.ids_of-taken.result) a.counter rows (table_of (drop from made)) same in
     let none_left = Turn.no_row (take l.m l.taken) l.k n a.frame.now (table_in l.t) l.s c.loop-s-test.false in
     subst (λ v. PlansIn v n old a.counter (plan_from (ids (table_of old)) a.counter n a.frame.now made from) (record { counter = l.k; changes = l.changes; good = true }) (table_in l.t))
     (sym all) (record {

@@ -18,6 +18,7 @@ use Rattle.lent_plan.proofs.give_ids.Given as goal
 -- The rows from s₀ to s are good, and their slots made; `promised` is what was to be planned from the start.
 pub record Made (u : Setup) (old : List Slot) (frame : List ℤ) (s₀ : ℕ) (promised : Planned) (taken : List ℤ) (held m : ℕ) (t : List Slot) (k s : ℕ) (c : Changed) : Type 0 where
   pub inside : s ≤ u.n
+  pub few : u.n ≤ records
   pub few_taken : m ≤ u.n + s
   pub counts : k < id_count
   pub places : length taken ≡ 2 * records

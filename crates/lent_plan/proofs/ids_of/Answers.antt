@@ -1,6 +1,6 @@
 -- `lent_plan::ids_of` has the ids of a table's first slots in its first places. The loop has copied i of them. Assumes nothing.
 use borrow.Author.Rules.{rules}
-use mathlib.Core.Path.{◌≡◌, sym, ap, ◌∙◌}
+use mathlib.Core.Path.{sym, ap, ◌∙◌}
 use mathlib.Core.List.{List, ◌∷◌, [], ◌++◌}
 use Prim.Native.Nat.{◌<◌}
 use native.Mathlib.Numerals.{add-one}
@@ -21,20 +21,12 @@ use Rattle.lent_plan.proofs.ids_of.Goals as goal
 
 pub loop-i-preserved : goal.loop-i-preserved
 loop-i-preserved c =
-    let r = c in
-    let l = r.loop-i in
-    let st = r in
-    let t = table_in st.args.t.now in
-    let v = r.slot_of-s.result.id.0 in
-    let is = r.slot_of-s.ensures in
+    let l = c.loop-i in
+    let t = table_in c.args.t.now in
+    let v = c.slot_of.result.id.0 in
+    let is = c.slot_of.ensures in
     let f : SFits w32 v = search rules in
     let room : l.i < length l.l = omega (arith, l.invariant.1) in
-    let next = more-ids slot_of blank t l.i (omega (arith, table_long st.args.t.now)) ∙ ap (λ (x : Slot). ids (table_of (take l.i t)) ++ x.id.0 ∷ []) (sym is) in
+    let next = more-ids slot_of blank t l.i (omega (arith, table_long c.args.t.now)) ∙ ap (λ (x : Slot). ids (table_of (take l.i t)) ++ x.id.0 ∷ []) (sym is) in
     let more = take-suc-set l.l l.i v room ∙ ap (λ (a : List ℤ). a ++ v ∷ []) l.invariant.2 ∙ sym next in
     rw (to_z-of_z w32 v f) (search rules, length-set l.l l.i v ∙ l.invariant.1, rw add-one more)
-
-pub returns : goal.returns
-returns c =
-    let l = c.loop-i in
-    let e : l.i ≡ c.args.n = omega arith in
-    rw e at l.invariant.2

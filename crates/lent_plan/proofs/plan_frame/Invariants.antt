@@ -4,7 +4,7 @@ use mathlib.Core.List.{List}
 use Prim.Native.Nat.{ℕ, ◌≤◌, ◌-◌}
 use lib.IntN.{ℤ}
 use lib.ListN.{length}
-use Rattle.model.specs.Panel.{per_slot}
+use Rattle.model.specs.Panel.{per_slot, records}
 use Rattle.model.specs.Table.{ids}
 use Rattle.model.specs.Frame.{values_good, rows_from, framed}
 use Rattle.panel.specs.declared.Slot.{Slot}
@@ -19,6 +19,7 @@ use Rattle.lent_plan.proofs.plan_frame.Given as goal
 -- The first s rows are good and their slots made, and no id is given: what is left is what the frame plans, and c tells what changed.
 pub record Kept (u : Setup) (old : List Slot) (counter : ℕ) (frame : List ℤ) (t : List Slot) (c : Changed) (s : ℕ) : Type 0 where
   pub inside : s ≤ u.n
+  pub few : u.n ≤ records
   pub good : values_good (panel_seen u) frame ≡ rows_good u frame s
   pub whole : framed counter (rows_from per_slot u.n frame 0) (table_of old) ≡ plan_from (ids (table_of old)) counter u.n frame t s
   pub tells : Tells s old t c

@@ -7,7 +7,6 @@ use Rattle.lent_plan.proofs.put_at.Goals as goal
 
 pub returns : goal.returns
 returns c =
-    let p = c in
-    let a = p.args in
+    let a = c.args in
     let fits : SlotFits a.w = record { id = search rules; x = search rules; y = search rules; pressure = search rules; major = search rules; minor = search rules } in
-    ap table_in c.put_slot.ensures ∙ slot_put a.t.now a.s p.requires.0 a.w fits p.requires.1
+    ap table_in c.put_slot.ensures ∙ slot_put a.t.now a.s c.requires.0 a.w fits c.requires.1

@@ -24,42 +24,27 @@ ranks-told k = k.ranks_good.ensures ∙ ap (λ l. good_ranks l k.args.ranks.now)
 
 shown : (p : After-pointed-p) → (let s = p in pointer_of p.pointed-p.result ≡ pointed (table_of (table_in s.args.t.now)) s.args.ranks.now (pointer_of s.args.told))
 shown p =
-    let slot = p in
-    let live = slot in
-    let oldest = live in
-    let e = p in
-    let k = e in
-    let s = k in
+    let s = p in
     let q = pointer_of s.args.told in
-    let i = k.ids_in-ids in
-    let good : T (good_ranks i.result s.args.ranks.now) = holds _ (sym k.ranks_good.ensures ∙ e.if-not-ranks_good.false) in
-    p.pointed-p.ensures ∙ ap₂ (λ m z. shown_of m z q) live.live_count.ensures.0 (slot.slot_of.ensures ∙ ap (λ j. get_or (table_in s.args.t.now) j blank) oldest.oldest_slot-k.ensures.1)
+    let i = p.ids_in-ids in
+    let good : T (good_ranks i.result s.args.ranks.now) = holds _ (sym p.ranks_good.ensures ∙ p.if-not-ranks_good.false) in
+    p.pointed-p.ensures ∙ ap₂ (λ m z. shown_of m z q) p.live_count.ensures.0 (p.slot_of.ensures ∙ ap (λ j. get_or (table_in s.args.t.now) j blank) p.oldest_slot-k.ensures.1)
     ∙ shown-is (table_in s.args.t.now) s.args.ranks.now q (full s.args.t.now) i.result i.ensures.0 i.ensures.1.whole good
 
 pub returns-then-not-ranks_good : goal.returns-then-not-ranks_good
 returns-then-not-ranks_good c =
-    let k = c in
-    let bad = sym (ranks-told (goal.at.returns-then-not-ranks_good k).After-ranks_good) ∙ c.if-not-ranks_good.true in
-    sym (ap (λ b. (b && (eq_pointer (pointer_of k.args.told) (pointed (table_of (table_in k.args.t.now)) k.args.ranks.now (pointer_of k.args.told)))) && (in_range (fields_of k.args.setup) (pointer_of k.args.told).x (pointer_of k.args.told).y)) bad)
+    let bad = sym (ranks-told (goal.at.returns-then-not-ranks_good c).After-ranks_good) ∙ c.if-not-ranks_good.true in
+    sym (ap (λ b. (b && (eq_pointer (pointer_of c.args.told) (pointed (table_of (table_in c.args.t.now)) c.args.ranks.now (pointer_of c.args.told)))) && (in_range (fields_of c.args.setup) (pointer_of c.args.told).x (pointer_of c.args.told).y)) bad)
 
 pub returns-then-not-pointers_same : goal.returns-then-not-pointers_same
 returns-then-not-pointers_same c =
-    let p = c in
-    let e = p in
-    let k = e in
-    let s = k in
-    let good = sym (ranks-told (goal.at.returns-then-not-pointers_same k).After-ranks_good) ∙ e.if-not-ranks_good.false in
-    let bad = sym (c.pointers_same.ensures ∙ ap (eq_pointer (pointer_of s.args.told)) (shown (goal.at.returns-then-not-pointers_same p).After-pointed-p)) ∙ c.if-not-pointers_same.true in
-    sym (ap₂ (λ x y. (x && y) && (in_range (fields_of s.args.setup) (pointer_of s.args.told).x (pointer_of s.args.told).y)) good bad)
+    let good = sym (ranks-told (goal.at.returns-then-not-pointers_same c).After-ranks_good) ∙ c.if-not-ranks_good.false in
+    let bad = sym (c.pointers_same.ensures ∙ ap (eq_pointer (pointer_of c.args.told)) (shown (goal.at.returns-then-not-pointers_same c).After-pointed-p)) ∙ c.if-not-pointers_same.true in
+    sym (ap₂ (λ x y. (x && y) && (in_range (fields_of c.args.setup) (pointer_of c.args.told).x (pointer_of c.args.told).y)) good bad)
 
 pub returns : goal.returns
 returns c =
-    let i = c in
-    let p = i in
-    let e = p in
-    let k = e in
-    let s = k in
-    let a = s.args in
-    let good = sym (ranks-told (goal.at.returns k).After-ranks_good) ∙ e.if-not-ranks_good.false in
-    let same = sym (i.pointers_same.ensures ∙ ap (eq_pointer (pointer_of a.told)) (shown (goal.at.returns p).After-pointed-p)) ∙ i.if-not-pointers_same.false in
-    ap₂ (λ x y. x && y) (fits_top a.told.x a.setup.x) (fits_top a.told.y a.setup.y) ∙ sym (ap₂ (λ x y. (x && y) && (in_range (fields_of s.args.setup) (pointer_of s.args.told).x (pointer_of s.args.told).y)) good same)
+    let a = c.args in
+    let good = sym (ranks-told (goal.at.returns c).After-ranks_good) ∙ c.if-not-ranks_good.false in
+    let same = sym (c.pointers_same.ensures ∙ ap (eq_pointer (pointer_of a.told)) (shown (goal.at.returns c).After-pointed-p)) ∙ c.if-not-pointers_same.false in
+    ap₂ (λ x y. x && y) (fits_top a.told.x a.setup.x) (fits_top a.told.y a.setup.y) ∙ sym (ap₂ (λ x y. (x && y) && (in_range (fields_of c.args.setup) (pointer_of c.args.told).x (pointer_of c.args.told).y)) good same)

@@ -14,27 +14,22 @@ use Rattle.lent_pointer.proofs.ids_in.Goals as goal
 pub loop-i-init : goal.loop-i-init
 loop-i-init c = (search rules, copied-start _ _)
 
-pub slot_of-s-requires : goal.slot_of-s-requires
-slot_of-s-requires c =
-    let s = c in
-    (omega (arith, c.loop-i-test.true, s.requires.0.few), s.requires.1)
+pub slot_of-requires : goal.slot_of-requires
+slot_of-requires c =
+    (omega (arith, c.loop-i-test.true, c.requires.0.few), c.requires.1)
 
 pub loop-i-preserved : goal.loop-i-preserved
 loop-i-preserved c =
-    let r = c in
-    let p = r in
-    let s = p in
-    let l = p.loop-i in
-    let t = s.args.t.now in
-    let v = r.slot_of-s.result.id.0 in
+    let l = c.loop-i in
+    let t = c.args.t.now in
+    let v = c.slot_of.result.id.0 in
     let f : SFits w32 v = search rules in
-    let is = ap (λ (x : Slot). x.id.0) r.slot_of-s.ensures in
-    let turned = copied-turn s.args.n (table_in t) l.l l.i l.invariant.1 r.loop-i-test.true s.requires.0.few (full t) in
-    rw (to_z-of_z w32 v f, is) (omega (arith, r.loop-i-test.true), turned)
+    let is = ap (λ (x : Slot). x.id.0) c.slot_of.ensures in
+    let turned = copied-turn c.args.n (table_in t) l.l l.i l.invariant.1 c.loop-i-test.true c.requires.0.few (full t) in
+    rw (to_z-of_z w32 v f, is) (omega (arith, c.loop-i-test.true), turned)
 
 pub returns : goal.returns
 returns c =
-    let s = c in
     let l = c.loop-i in
-    let at : l.i ≡ s.args.n = omega (arith, l.invariant.0, c.loop-i-test.false) in
-    copied-over s.args.n (table_in s.args.t.now) l.l s.requires.0 (subst (λ i. Copied s.args.n (table_in s.args.t.now) l.l i) at l.invariant.1)
+    let at : l.i ≡ c.args.n = omega (arith, l.invariant.0, c.loop-i-test.false) in
+    copied-over c.args.n (table_in c.args.t.now) l.l c.requires.0 (subst (λ i. Copied c.args.n (table_in c.args.t.now) l.l i) at l.invariant.1)

@@ -13,11 +13,6 @@ whole c = search (rules, unmapped)
 
 pub returns : goal.returns
 returns c =
-    let d = c in
-    let t = d in
-    let u = t in
-    let w = u in
-    let i = w in
-    let s = i.args.s in
-    body-laid s (whole (goal.at.returns i).Start) i.args.b.now w.put_word.new.b u.put_setup.new.b t.put_table.new.b d.put_table-2.new.b
-    i.requires.0 w.put_word.ensures u.put_setup.ensures t.put_table.ensures d.put_table-2.ensures
+    let s = c.args.s in
+    body-laid s (whole (goal.at.returns c).Start) c.args.b.now c.put_word.new.b c.put_setup.new.b c.put_table.new.b c.put_table-2.new.b
+    c.requires.0 c.put_word.ensures c.put_setup.ensures c.put_table.ensures c.put_table-2.ensures

@@ -2,20 +2,11 @@
 use mathlib.Core.Path.{◌∙◌}
 use mathlib.Core.List.{[], ◌∷◌, append_assoc}
 use native.Mathlib.Omega.{arith}
-use lib.ListN.{take, drop, length-set}
+use lib.ListN.{take, drop}
 use lib.Seq.{sets-eq}
 use Rattle.model.specs.Records.{lay}
 use Rattle.lent_reader.specs.Layout.{version}
 use Rattle.lent_reader.proofs.put_head.Goals as goal
-
-pub bounds-b-1 : goal.bounds-b-1
-bounds-b-1 c = simp length-set (omega arith)
-
-pub bounds-b-2 : goal.bounds-b-2
-bounds-b-2 c = simp length-set (omega arith)
-
-pub bounds-b-3 : goal.bounds-b-3
-bounds-b-3 c = simp length-set (omega arith)
 
 pub returns : goal.returns
 unfolding lay

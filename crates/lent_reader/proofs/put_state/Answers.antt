@@ -10,9 +10,7 @@ use Rattle.lent_reader.proofs.put_state.Goals as goal
 
 pub returns : goal.returns
 returns c =
-    let d = c in
-    let h = d in
-    let a = h.args in
+    let a = c.args in
     let head = head_bytes a.kind a.s.mode a.more in
     let size : 0 + length head ≤ length a.b.now = search rules in
-    d.put_body.ensures ∙ ap (lay 4 (body_bytes a.s)) h.put_head.ensures ∙ lay-lay 0 head (body_bytes a.s) a.b.now size
+    c.put_body.ensures ∙ ap (lay 4 (body_bytes a.s)) c.put_head.ensures ∙ lay-lay 0 head (body_bytes a.s) a.b.now size

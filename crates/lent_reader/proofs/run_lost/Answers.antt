@@ -5,12 +5,8 @@ use Rattle.lent_reader.proofs.run_lost.Goals as goal
 
 pub returns : goal.returns
 returns c =
-    let h = c in
-    let l = h in
-    let k = l in
-    let s = k in
-    let a = s.args in
+    let a = c.args in
     let b = a.b.now in
-    let last = l.last_mode-last.result in
-    lost_ends b a.bytes.now s.requires.1 a.m last s.requires.2 s.requires.3 l.last_mode-last.ensures _
-    (h.put_head.ensures ∙ head_stored b k.slice_known-1.given s.requires.0 last)
+    let last = c.last_mode-last.result in
+    lost_ends b a.bytes.now c.requires.1 a.m last c.requires.2 c.requires.3 c.last_mode-last.ensures _
+    (c.put_head.ensures ∙ head_stored b c.slice_known-1.given c.requires.0 last)

@@ -38,12 +38,7 @@ id-fits c = search rules
 -- It is unused where its numbers are an unused record's.
 unused-by : (c : After-word_at-minor) → (let l = c in eq_slot (slot_of (slot_in l.args.t.now (slot_size * l.loop-i.i))) (slot_of unused) ≡ idle (id c) (others c))
 unused-by c =
-    let w5 = c in
-    let w4 = w5 in
-    let w3 = w4 in
-    let w2 = w3 in
-    let w1 = w2 in
-    rw (← w1.word_at-ids.ensures, ← w2.word_at-x.ensures, ← w3.word_at-y.ensures, ← w4.word_at-pressure.ensures, ← w5.word_at-major.ensures, ← c.word_at-minor.ensures)
+    rw (← c.word_at-ids.ensures, ← c.word_at-x.ensures, ← c.word_at-y.ensures, ← c.word_at-pressure.ensures, ← c.word_at-major.ensures, ← c.word_at-minor.ensures)
     (ap (λ b. b && none (others c)) (sym (ones_are (id c) (id-fits c))))
 
 -- What it says of the rest.
@@ -60,14 +55,10 @@ rest-by c =
 
 -- ---- the needs
 
-pub loop-i-init : goal.loop-i-init
-loop-i-init c = (omega arith, refl)
-
 pub loop-i-preserved : goal.loop-i-preserved
 loop-i-preserved c =
-    let l = c in
-    let g = l.loop-i in
-    let rest = rest_good (table_in l.args.t.now) (g.i + 1) in
+    let g = c.loop-i in
+    let rest = rest_good (table_in c.args.t.now) (g.i + 1) in
     let were = g.x ∷ g.y ∷ g.pressure ∷ g.major ∷ g.minor ∷ [] in
     let more = idle_more g.ids were (id (goal.at.loop-i-preserved c).After-word_at-minor) (others (goal.at.loop-i-preserved c).After-word_at-minor) g.invariant.0 (id-fits (goal.at.loop-i-preserved c).After-word_at-minor) refl rest in
     (omega (arith, g.invariant.0, and_le_l g.ids (id (goal.at.loop-i-preserved c).After-word_at-minor)), g.invariant.1 ∙ ap (λ b. idle g.ids were && b) (rest-by (goal.at.loop-i-preserved c).After-word_at-minor) ∙ more)

@@ -2,9 +2,8 @@
 use mathlib.Core.Path.{◌≡◌}
 use mathlib.Core.Bool.{Bool, ◌&&◌}
 use mathlib.Core.List.{List, [], ◌∷◌}
-use Prim.Native.Nat.{ℕ, ◌-◌, ◌<◌, ◌^◌}
+use Prim.Native.Nat.{ℕ, ◌<◌, ◌^◌}
 use lib.ListN.{drop}
-use Rattle.model.specs.Panel.{records}
 use Rattle.model.specs.Table.{eq_table}
 use Rattle.panel.specs.declared.Slot.{Slot}
 use Rattle.panel.specs.Seen.{table_of, unused_all}
@@ -19,6 +18,3 @@ rest_good t i = eq_table (table_of (drop i t)) (table_of (drop i unused_all))
 abbrev pub invariant-loop-i : goal.invariant-loop-i
 invariant-loop-i l =
     (l.ids < 2 ^ 32) × (rest_good (table_in l.t) l.n ≡ (idle l.ids (l.x ∷ l.y ∷ l.pressure ∷ l.major ∷ l.minor ∷ []) && rest_good (table_in l.t) l.i))
-
-abbrev pub decreases-loop-i : goal.decreases-loop-i
-decreases-loop-i l = records - l.i

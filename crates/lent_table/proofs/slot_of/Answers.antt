@@ -5,5 +5,4 @@ use Rattle.lent_table.proofs.slot_of.Goals as goal
 
 pub returns : goal.returns
 returns c =
-    let a = c in
-    c.slot_at.ensures ∙ slot_is a.args.t.now a.args.s a.requires.0
+    c.slot_at.ensures ∙ slot_is c.args.t.now c.args.s c.requires.0

@@ -20,6 +20,3 @@ pub record Seen (u : Setup) (n : ℕ) (t : List Slot) (met : ℕ) (apart : Bool)
 
 abbrev pub invariant-loop-j : goal.invariant-loop-j
 invariant-loop-j l = Seen l.setup l.n (table_in l.t) l.held l.apart l.j
-
-abbrev pub decreases-loop-j : goal.decreases-loop-j
-decreases-loop-j l = l.n - l.j

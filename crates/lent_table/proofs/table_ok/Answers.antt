@@ -11,20 +11,12 @@ use Rattle.lent.specs.Lent.{table_in}
 use Rattle.lent_table.proofs.Read.{full}
 use Rattle.lent_table.proofs.table_ok.Goals as goal
 
-pub returns-then-not-rest_unused : goal.returns-then-not-rest_unused
-returns-then-not-rest_unused c =
-    let r = c in
-    let s = r in
-    let u = s.args.setup in
-    let front = good_records (fields_of u) u.n (table_of (take u.n (table_in s.args.t.now))) in
-    let used = sym r.rest_unused.ensures ∙ c.if-not-rest_unused.true in
-    sym (good_parts u (table_in s.args.t.now) (full s.args.t.now) ∙ and-false front _ used)
+pub slots_judged-requires : goal.slots_judged-requires
+slots_judged-requires c = (c.requires.0, c.requires.1, eq_table→eq _ _ (holds _ (sym c.rest_unused.ensures ∙ c.if-rest_unused.true)))
 
-pub slots_judged-told-requires : goal.slots_judged-told-requires
-slots_judged-told-requires c =
-    let r = c in
-    let s = r in
-    (s.requires.0, s.requires.1, eq_table→eq _ _ (holds _ (sym r.rest_unused.ensures ∙ c.if-not-rest_unused.false)))
-
-pub returns : goal.returns
-returns c = c.slots_judged-told.ensures.good
+pub returns-else-rest_unused : goal.returns-else-rest_unused
+returns-else-rest_unused c =
+    let u = c.args.setup in
+    let t = table_in c.args.t.now in
+    let front = good_records (fields_of u) u.n (table_of (take u.n t)) in
+    c.if-rest_unused.false ∙ sym (good_parts u t (full c.args.t.now) ∙ and-false front _ (sym c.rest_unused.ensures ∙ c.if-rest_unused.false))

@@ -1,5 +1,5 @@
 -- `lent_writer::all_zero` tells whether every rank is 0. The loop has looked at those below i. Assumes nothing.
-use mathlib.Core.Path.{refl, sym, ap, ◌∙◌}
+use mathlib.Core.Path.{sym, ap, ◌∙◌}
 use mathlib.Core.Bool.{not, ◌&&◌, and-true}
 use Prim.Native.Nat.{◌+◌, ◌-◌}
 use lib.Dec.{eqb}
@@ -9,9 +9,6 @@ use Rattle.model.specs.Pointing.{zeros}
 use Rattle.pointer.proofs.Numbers.{zeros-turn, zeros-over, neither}
 use borrow.Author.Rules.{rules}
 use Rattle.lent_writer.proofs.all_zero.Goals as goal
-
-pub loop-i-init : goal.loop-i-init
-loop-i-init c = (search rules, refl)
 
 pub loop-i-preserved : goal.loop-i-preserved
 loop-i-preserved c =

@@ -1,6 +1,6 @@
 -- `lent_writer::moved_on` are ranks and display after a frame, by the option. Assumes nothing.
 use mathlib.Core.Path.{sym, subst}
-use borrow.Author.Tests.{eq-eqb, ne_eqb}
+use borrow.Author.Tests.{eq-eqb}
 use Rattle.pointer.specs.declared.Moved.{Moved}
 use Rattle.pointer.specs.Moved.{Moving, MovesTo, MovingIf, MovesBy}
 use Rattle.writer.specs.Seen.{last_of}
@@ -13,29 +13,17 @@ use Rattle.lent_writer.proofs.moved_on.Goals as goal
 
 pub moves-requires : goal.moves-requires
 moves-requires c =
-    let k = c in
-    let s = k in
-    let a = s.args in
+    let a = c.args in
     let bs = a.b.now in
-    let moving = subst (λ v. MovingIf v a.n (unpacked bs).table (table_in a.new.now) a.slots (last_of (unpacked bs))) (eq-eqb (byte_at bs option_at) 1 c.if-b-eq1.true) s.requires.2 in
-    let of-bytes = subst (λ t. Moving a.n t (table_in a.new.now) a.slots (last_of (unpacked bs))) (sym (table_is bs s.requires.0)) moving in
-    (subst (λ l. Moving a.n (table_in (table_part bs)) (table_in a.new.now) a.slots l) (sym k.last_of-last.ensures) of-bytes, part-size bs s.requires.0, s.requires.1)
+    let moving = subst (λ v. MovingIf v a.n (unpacked bs).table (table_in a.new.now) a.slots (last_of (unpacked bs))) (eq-eqb (byte_at bs option_at) 1 c.if-b-eq1.true) c.requires.2 in
+    let of-bytes = subst (λ t. Moving a.n t (table_in a.new.now) a.slots (last_of (unpacked bs))) (sym (table_is bs c.requires.0)) moving in
+    (subst (λ l. Moving a.n (table_in (table_part bs)) (table_in a.new.now) a.slots l) (sym c.last_of-last.ensures) of-bytes, part-size bs c.requires.0, c.requires.1)
 
 pub returns-then-b-eq1 : goal.returns-then-b-eq1
 returns-then-b-eq1 c =
-    let t = c in
-    let k = t in
-    let s = k in
-    let a = s.args in
+    let a = c.args in
     let bs = a.b.now in
     let new = table_in a.new.now in
-    let last = subst (λ (l : Moved). MovesTo (table_in (table_part bs)) new l.ranks l.told c.moves.result) k.last_of-last.ensures c.moves.ensures in
-    let of-state = subst (λ x. MovesTo x new (unpacked bs).ranks (unpacked bs).told c.moves.result) (table_is bs s.requires.0) last in
-    subst (λ v. MovesBy v (unpacked bs).table new (unpacked bs).ranks (unpacked bs).told c.moves.result) (sym (eq-eqb (byte_at bs option_at) 1 t.if-b-eq1.true)) of-state
-
-pub returns : goal.returns
-returns c =
-    let k = c in
-    let a = k.args in
-    let bs = a.b.now in
-    subst (λ v. MovesBy v (unpacked bs).table (table_in a.new.now) (unpacked bs).ranks (unpacked bs).told k.last_of-last.result) (sym (ne_eqb (byte_at bs option_at) 1 c.if-b-eq1.false)) k.last_of-last.ensures
+    let last = subst (λ (l : Moved). MovesTo (table_in (table_part bs)) new l.ranks l.told c.moves.result) c.last_of-last.ensures c.moves.ensures in
+    let of-state = subst (λ x. MovesTo x new (unpacked bs).ranks (unpacked bs).told c.moves.result) (table_is bs c.requires.0) last in
+    subst (λ v. MovesBy v (unpacked bs).table new (unpacked bs).ranks (unpacked bs).told c.moves.result) (sym (eq-eqb (byte_at bs option_at) 1 c.if-b-eq1.true)) of-state

@@ -4,7 +4,7 @@ use mathlib.Core.Bool.{true}
 use native.Mathlib.Omega.{arith}
 use lib.ListN.{length, drop, length-drop}
 use lib.Seq.{length-take-le}
-use borrow.Author.Tests.{eq-eqb, ne_eqb}
+use borrow.Author.Tests.{eq-eqb}
 use Rattle.model.specs.Panel.{records}
 use Rattle.model.specs.Pointing.{good_pointing}
 use Rattle.panel.specs.Seen.{table_of, panel_seen}
@@ -17,23 +17,13 @@ use Rattle.lent_writer.proofs.pointing_ok.Goals as goal
 
 pub apt-requires : goal.apt-requires
 apt-requires c =
-    let s = c in
-    let bs = s.args.b.now in
-    let ranked : length (ranks_in bs) ≡ records = length-take-le records (drop ranks_at bs) (omega (arith, length-drop ranks_at bs, s.requires.0)) in
-    (subst (Unused s.args.setup.n) (sym (table_is bs s.requires.0)) s.requires.1, part-size bs s.requires.0, ranked)
+    let bs = c.args.b.now in
+    let ranked : length (ranks_in bs) ≡ records = length-take-le records (drop ranks_at bs) (omega (arith, length-drop ranks_at bs, c.requires.0)) in
+    (subst (Unused c.args.setup.n) (sym (table_is bs c.requires.0)) c.requires.1, part-size bs c.requires.0, ranked)
 
 pub returns-then-b-eq1 : goal.returns-then-b-eq1
 returns-then-b-eq1 c =
-    let t = c in
-    let s = t in
-    let bs = s.args.b.now in
-    let u = panel_seen s.args.setup in
-    c.apt.ensures ∙ ap₂ (λ l q. good_pointing true u (table_of l) (pointing_of (ranks_in bs) q)) (table_is bs s.requires.0) c.told_at.ensures
-    ∙ sym (ap (λ v. good_pointing v u (table_of (unpacked bs).table) (pointing_of (ranks_in bs) (told_in bs))) (eq-eqb (byte_at bs option_at) 1 t.if-b-eq1.true))
-
-pub returns : goal.returns
-returns c =
-    let e = c in
-    let s = e in
-    let bs = s.args.b.now in
-    c.untold.ensures ∙ sym (ap (λ v. good_pointing v (panel_seen s.args.setup) (table_of (unpacked bs).table) (pointing_of (ranks_in bs) (told_in bs))) (ne_eqb (byte_at bs option_at) 1 e.if-b-eq1.false))
+    let bs = c.args.b.now in
+    let u = panel_seen c.args.setup in
+    c.apt.ensures ∙ ap₂ (λ l q. good_pointing true u (table_of l) (pointing_of (ranks_in bs) q)) (table_is bs c.requires.0) c.told_at.ensures
+    ∙ sym (ap (λ v. good_pointing v u (table_of (unpacked bs).table) (pointing_of (ranks_in bs) (told_in bs))) (eq-eqb (byte_at bs option_at) 1 c.if-b-eq1.true))

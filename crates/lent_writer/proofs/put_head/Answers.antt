@@ -2,23 +2,11 @@
 use mathlib.Core.Path.{ap, ◌∙◌}
 use Prim.Native.Nat.{◌/◌, ◌%◌}
 use native.Mathlib.Omega.{arith}
-use lib.ListN.{set, length-set}
+use lib.ListN.{set}
 use lib.Seq.{sets-eq}
 use Rattle.model.specs.Records.{lay}
 use Rattle.lent_writer.specs.Seen.{head_bytes}
 use Rattle.lent_writer.proofs.put_head.Goals as goal
-
-pub bounds-b-4 : goal.bounds-b-4
-bounds-b-4 c = simp length-set (omega arith)
-
-pub bounds-b : goal.bounds-b
-bounds-b c = simp length-set (omega arith)
-
-pub bounds-b-6 : goal.bounds-b-6
-bounds-b-6 c = simp length-set (omega arith)
-
-pub bounds-b-5 : goal.bounds-b-5
-bounds-b-5 c = simp length-set (omega arith)
 
 pub returns : goal.returns
 unfolding lay

@@ -16,11 +16,6 @@ ranked s = search rules
 
 pub returns : goal.returns
 returns c =
-    let r = c in
-    let t = r in
-    let n = t in
-    let h = n in
-    let start = h in
-    let a = start.args in
-    state-stored a.s (full (goal.at.returns start).Start) (ranked (goal.at.returns start).Start) a.b.now h.put_head.new.b n.put_numbers.new.b t.put_table.new.b r.put_ranks.new.b start.requires.0
-    h.put_head.ensures n.put_numbers.ensures t.put_table.ensures r.put_ranks.ensures
+    let a = c.args in
+    state-stored a.s (full (goal.at.returns c).Start) (ranked (goal.at.returns c).Start) a.b.now c.put_head.new.b c.put_numbers.new.b c.put_table.new.b c.put_ranks.new.b c.requires.0
+    c.put_head.ensures c.put_numbers.ensures c.put_table.ensures c.put_ranks.ensures

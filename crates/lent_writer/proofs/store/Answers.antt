@@ -12,22 +12,16 @@ use Rattle.lent_writer.proofs.store.Goals as goal
 
 pub keep-requires : goal.keep-requires
 keep-requires c =
-    let s = c in
-    let b = s.args.b.now in
-    let h = s.requires.0 in
-    (part-size b h.size, h.whole, h.told ∙ ap (λ t. changed_mask (table_of t) (table_of (table_in s.args.new.now))) (sym (table_is b h.size)))
+    let b = c.args.b.now in
+    let h = c.requires.0 in
+    (part-size b h.size, h.whole, h.told ∙ ap (λ t. changed_mask (table_of t) (table_of (table_in c.args.new.now))) (sym (table_is b h.size)))
 
 pub returns : goal.returns
 returns c =
-    let w₂ = c in
-    let w₁ = w₂ in
-    let k = w₁ in
-    let known = k in
-    let s = known in
-    let a = s.args in
-    let h = s.requires.0 in
+    let a = c.args in
+    let h = c.requires.0 in
     let b = a.b.now in
-    w₂.put_word-2.ensures
-    ∙ ap (λ l. lay counter_at (low_bytes 4 a.counter) l) w₁.put_word.ensures
-    ∙ stored_in_place (unpacked b) b k.keep.new.t (table_in a.new.now) a.last.0 a.counter (sym (packed_back b known.slice_known-1.given h.formed)) (table_long b)
-    (k.keep.ensures ∙ sym (table-held a.new.now known.shared_slice_known-1.given h.whole))
+    c.put_word-2.ensures
+    ∙ ap (λ l. lay counter_at (low_bytes 4 a.counter) l) c.put_word.ensures
+    ∙ stored_in_place (unpacked b) b c.keep.new.t (table_in a.new.now) a.last.0 a.counter (sym (packed_back b c.slice_known-1.given h.formed)) (table_long b)
+    (c.keep.ensures ∙ sym (table-held a.new.now c.shared_slice_known-1.given h.whole))

@@ -12,12 +12,10 @@ formed-at t = sym t.formed.ensures ∙ t.if-not-formed.false
 
 pub returns-then-not-formed : goal.returns-then-not-formed
 returns-then-not-formed c =
-    let k = c in
-    let a = k.args in
-    let e = sym k.formed.ensures ∙ c.if-not-formed.true in
+    let a = c.args in
+    let e = sym c.formed.ensures ∙ c.if-not-formed.true in
     frame_refused a.state.now a.at a.buf.now a.frame.now e c.unsent.result c.unsent.new.answer c.unsent.ensures
 
 pub in_place-requires : goal.in_place-requires
 in_place-requires c =
-    let t = c in
-    record { formed = formed-at (goal.at.in_place-requires t).Else-not-formed; size = (form t.args.state.now (formed-at (goal.at.in_place-requires t).Else-not-formed)).size }
+    record { formed = formed-at (goal.at.in_place-requires c).Else-not-formed; size = (form c.args.state.now (formed-at (goal.at.in_place-requires c).Else-not-formed)).size }

@@ -1,6 +1,6 @@
 -- `packets::read_packets`: the contacts of a type A frame, in one walk over its records. Assumes nothing.
 use borrow.Author.Rules.{rules}
-use mathlib.Core.Path.{◌≡◌, refl, sym, ap, ap₂, ◌∙◌}
+use mathlib.Core.Path.{◌≡◌, sym, ap, ap₂, ◌∙◌}
 use mathlib.Core.List.{List}
 use Prim.Native.Nat.{ℕ, ◌*◌, ◌/◌, ◌<◌}
 use lib.IntN.{ℤ}
@@ -13,8 +13,8 @@ use Rattle.model.specs.Packets.{said}
 use Rattle.records.specs.Seen.{headed}
 use Rattle.records.proofs.Words.{words_event}
 use Rattle.packets.specs.Seen.{said_by, packet_in}
-use Rattle.packets.proofs.Turns.{closes_none, closes_one, read-begins, read-passes, read_adds, read-counts, read-ends}
-use Rattle.packets.proofs.read_packets.Goals.{After-closes}
+use Rattle.packets.proofs.Turns.{closes_none, closes_one, read-passes, read_adds, read-counts, read-ends}
+use Rattle.packets.proofs.read_packets.Goals.{After-closes, then-closes+then-at-lt-MOST, then-closes+else-at-lt-MOST, else-closes}
 use Rattle.packets.proofs.read_packets.Goals as goal
 
 abbrev bytes : After-closes → List ℕ
@@ -36,29 +36,25 @@ own z f e = to_z-of_z w32 z f ∙ e
 
 -- ---- the needs
 
-pub loop-k-init : goal.loop-k-init
-loop-k-init c = read-begins c.args.bytes.now _ refl
-
-pub loop-k-preserved-then-at-lt-MOST : goal.loop-k-preserved-then-at-lt-MOST
-loop-k-preserved-then-at-lt-MOST c =
-    let p = c in
-    let z = closes_one (packet_in p.loop-k.w) p.said_of-said.result (signed_of p.word_at-value.result) (sym p.closes.ensures ∙ c.if-closes.true) in
-    read_adds p.loop-k.invariant (inside (goal.at.loop-k-preserved-then-at-lt-MOST p).After-closes) (said_by p.said_of-said.result (signed_of p.word_at-value.result)) (is_said (goal.at.loop-k-preserved-then-at-lt-MOST p).After-closes) p.heard-w.result p.heard-w.ensures z _ _ _
-    (own _ (search rules) c.value_of.ensures)
-    (own _ (search rules) c.value_of-then-at-lt-MOST.ensures)
-    (own _ (search rules) c.value_of-then-at-lt-MOST-2.ensures)
-
-pub loop-k-preserved-else-at-lt-MOST : goal.loop-k-preserved-else-at-lt-MOST
-loop-k-preserved-else-at-lt-MOST c =
-    let p = c in
-    let z = closes_one (packet_in p.loop-k.w) p.said_of-said.result (signed_of p.word_at-value.result) (sym p.closes.ensures ∙ c.if-closes.true) in
-    read-counts p.loop-k.invariant (inside (goal.at.loop-k-preserved-else-at-lt-MOST p).After-closes) (said_by p.said_of-said.result (signed_of p.word_at-value.result)) (is_said (goal.at.loop-k-preserved-else-at-lt-MOST p).After-closes) p.heard-w.result p.heard-w.ensures z c.if-at-lt-MOST.false
-
 pub loop-k-preserved : goal.loop-k-preserved
 loop-k-preserved c =
-    let p = c in
-    let z = closes_none (packet_in p.loop-k.w) p.said_of-said.result (signed_of p.word_at-value.result) (sym p.closes.ensures ∙ c.if-closes.false) in
-    read-passes p.loop-k.invariant (inside (goal.at.loop-k-preserved p).After-closes) (said_by p.said_of-said.result (signed_of p.word_at-value.result)) (is_said (goal.at.loop-k-preserved p).After-closes) p.heard-w.result p.heard-w.ensures z
+    let here = (goal.at.loop-k-preserved c).After-closes in
+    let what = said_by c.said_of-said.result (signed_of c.word_at-value.result) in
+    elim c.if-closes.branch [
+      | then-closes+then-at-lt-MOST w ↦
+          let z = closes_one (packet_in c.loop-k.w) c.said_of-said.result (signed_of c.word_at-value.result) (sym c.closes.ensures ∙ w.if-closes.true) in
+          rw (w.x-is, w.y-is, w.pressure-is)
+          (read_adds c.loop-k.invariant (inside here) what (is_said here) c.heard-w.result c.heard-w.ensures z _ _ _
+          (own _ (search rules) w.value_of.ensures)
+          (own _ (search rules) w.value_of-then-at-lt-MOST.ensures)
+          (own _ (search rules) w.value_of-then-at-lt-MOST-2.ensures))
+      | then-closes+else-at-lt-MOST w ↦
+          let z = closes_one (packet_in c.loop-k.w) c.said_of-said.result (signed_of c.word_at-value.result) (sym c.closes.ensures ∙ w.if-closes.true) in
+          rw (w.x-is, w.y-is, w.pressure-is) (read-counts c.loop-k.invariant (inside here) what (is_said here) c.heard-w.result c.heard-w.ensures z w.if-at-lt-MOST.false)
+      | else-closes w ↦
+          let z = closes_none (packet_in c.loop-k.w) c.said_of-said.result (signed_of c.word_at-value.result) (sym c.closes.ensures ∙ w.if-closes.false) in
+          rw (w.x-is, w.y-is, w.pressure-is) (read-passes c.loop-k.invariant (inside here) what (is_said here) c.heard-w.result c.heard-w.ensures z)
+    ]
 
 pub returns : goal.returns
 returns c = c.finished.ensures ∙ read-ends c.loop-k.invariant (search rules)

@@ -1,10 +1,6 @@
 -- `packets::read_packets`: the contacts of a type A frame, in one walk over its records. Assumes nothing.
-use Prim.Native.Nat.{◌-◌}
 use Rattle.packets.proofs.Turns.{Read}
 use Rattle.packets.proofs.read_packets.Given as goal
 
 abbrev pub invariant-loop-k : goal.invariant-loop-k
 invariant-loop-k l = Read l.bytes l.x l.y l.pressure l.w l.k
-
-abbrev pub decreases-loop-k : goal.decreases-loop-k
-decreases-loop-k l = l.records - l.k

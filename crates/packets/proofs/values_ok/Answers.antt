@@ -40,20 +40,17 @@ judged t =
 
 -- ---- the needs
 
-pub loop-i-init : goal.loop-i-init
-loop-i-init c =
-    let z : c.args.count - 0 ≡ c.args.count = omega arith in
-    (omega arith, rw z)
-
 pub returns-then-not-contact_ok : goal.returns-then-not-contact_ok
 returns-then-not-contact_ok c =
+    let here = (goal.at.returns-then-not-contact_ok c).After-contact_ok in
     let t = c in
-    sym (t.loop-i.invariant.1 ∙ turn (goal.at.returns-then-not-contact_ok t).After-contact_ok ∙ first-false _ _ (sym (judged (goal.at.returns-then-not-contact_ok t).After-contact_ok) ∙ c.if-not-contact_ok.true))
+    sym (t.loop-i.invariant.1 ∙ turn here ∙ first-false _ _ (sym (judged here) ∙ c.if-not-contact_ok.true))
 
 pub loop-i-preserved : goal.loop-i-preserved
 loop-i-preserved c =
+    let here = (goal.at.loop-i-preserved c).After-contact_ok in
     let t = c in
-    (omega arith, t.loop-i.invariant.1 ∙ turn (goal.at.loop-i-preserved t).After-contact_ok ∙ first-true _ _ (sym (judged (goal.at.loop-i-preserved t).After-contact_ok) ∙ c.if-not-contact_ok.false))
+    (omega arith, t.loop-i.invariant.1 ∙ turn here ∙ first-true _ _ (sym (judged here) ∙ c.if-not-contact_ok.false))
 
 pub returns : goal.returns
 returns c =

@@ -9,6 +9,3 @@ use Rattle.packets.proofs.values_ok.Given as goal
 abbrev pub invariant-loop-i : goal.invariant-loop-i
 invariant-loop-i l =
     (l.i ≤ l.count) × (contacts_good (panel_seen l.setup) (contacts_from l.count 0 l.x l.y l.pressure) ≡ contacts_good (panel_seen l.setup) (contacts_from (l.count - l.i) l.i l.x l.y l.pressure))
-
-abbrev pub decreases-loop-i : goal.decreases-loop-i
-decreases-loop-i l = l.count - l.i

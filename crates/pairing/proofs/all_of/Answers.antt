@@ -5,8 +5,5 @@ use native.Mathlib.Omega.{arith}
 use Rattle.pairing.proofs.Sets.{power, power_some, power_small}
 use Rattle.pairing.proofs.all_of.Goals as goal
 
-pub overflow_sub-result : goal.overflow_sub-result
-overflow_sub-result c = omega (arith, power c.args.n c.requires, power_some c.args.n c.requires)
-
 pub returns : goal.returns
 returns c = (ap (λ p. p - 1) (power c.args.n c.requires), omega (arith, power c.args.n c.requires, power_some c.args.n c.requires, power_small c.args.n c.requires))

@@ -3,32 +3,13 @@ use mathlib.Core.Path.{◌≡◌, refl}
 use Prim.Native.Nat.{suc, ◌-◌, ◌<◌}
 use native.Mathlib.Omega.{arith}
 use Rattle.pairing.specs.Cells.{choosable, value}
-use Rattle.pairing.proofs.Sets.{power, bit_le}
-use Rattle.pairing.proofs.Reach.{shifted, finish, reach_start, reach_used, reach_kept, reach_taken}
+use Rattle.pairing.proofs.Reach.{finish, reach_start, reach_used, reach_kept, reach_taken}
 use Rattle.pairing.proofs.cell.Goals as goal
-
-pub overflow_add-best : goal.overflow_add-best
-overflow_add-best c = omega (arith, c.requires.1.small c.args.free (omega arith))
 
 pub loop-c-init : goal.loop-c-init
 loop-c-init c =
     let s = c in
     (omega arith, reach_start s.args.offers.now s.args.row.now s.args.free s.requires.2 s.requires.1 _ (omega arith))
-
-pub overflow_sub-rest : goal.overflow_sub-rest
-overflow_sub-rest c =
-    let s = c in
-    let j = c.loop-c.c - 1 in
-    let h : j < 5 = omega (arith, c.loop-c.invariant.0, c.loop-c-test.true) in
-    omega (arith, power j (omega arith), bit_le s.args.free j h c.if-free-c-eq1.true)
-
-pub overflow_add-v : goal.overflow_add-v
-overflow_add-v c =
-    let s = c in
-    let l = c.loop-c in
-    let j = l.c - 1 in
-    let h : j < 5 = omega (arith, l.invariant.0, c.loop-c-test.true) in
-    omega (arith, s.requires.2.small j h, s.requires.1.small (s.args.free - shifted j) (omega arith), s.requires.1.small s.args.free (omega arith))
 
 pub loop-c-preserved-then-v-best : goal.loop-c-preserved-then-v-best
 loop-c-preserved-then-v-best c =

@@ -6,6 +6,3 @@ use Rattle.pairing.proofs.cell.Given as goal
 
 abbrev pub invariant-loop-c : goal.invariant-loop-c
 invariant-loop-c l = (l.c ≤ 5) × Reach (choosable l.free) (value l.offers l.row l.free) l.best l.c
-
-abbrev pub decreases-loop-c : goal.decreases-loop-c
-decreases-loop-c l = l.c

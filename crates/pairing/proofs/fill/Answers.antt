@@ -3,49 +3,13 @@ use mathlib.Core.Path.{◌≡◌}
 use Prim.Native.Nat.{suc, ◌-◌, ◌<◌}
 use native.Mathlib.Omega.{arith}
 use Rattle.model.specs.Pairing.{points}
-use Rattle.pairing.proofs.Filled.{filled_start, filled_low, filled_next, filled_move}
+use Rattle.pairing.proofs.Filled.{filled_start, filled_next, filled_move}
 use Rattle.pairing.proofs.fill.Goals as goal
-
-pub all_of-all-requires : goal.all_of-all-requires
-all_of-all-requires c = c.requires.1
 
 pub loop-i-init : goal.loop-i-init
 loop-i-init c =
     let s = c in
     filled_start (points s.args.news 0 s.args.nx.now s.args.ny.now) s.args.ox.now s.args.oy.now s.args.olds s.args.news (omega (arith, c.all_of-all.ensures.0, c.all_of-all.ensures.1))
-
-pub offset_bounds-ox-i : goal.offset_bounds-ox-i
-offset_bounds-ox-i c = omega (arith, c.loop-i.invariant.far, c.requires.0)
-
-pub bounds-ox-i : goal.bounds-ox-i
-bounds-ox-i c = omega (arith, c.loop-i.invariant.far, c.requires.0, c.loop-i-test.true)
-
-pub offset_bounds-oy-i : goal.offset_bounds-oy-i
-offset_bounds-oy-i c = omega (arith, c.loop-i.invariant.far, c.requires.0)
-
-pub bounds-oy-i : goal.bounds-oy-i
-bounds-oy-i c = omega (arith, c.loop-i.invariant.far, c.requires.0, c.loop-i-test.true)
-
-pub offers-d-requires : goal.offers-d-requires
-offers-d-requires c =
-    let s = c in
-    let i = c.loop-i.i - 1 in
-    (s.requires.2 i, s.requires.3 i, s.requires.4, s.requires.5)
-
-pub turn-requires : goal.turn-requires
-turn-requires c =
-    let a = c in
-    let s = a in
-    let l = c.loop-i in
-    let z : l.i ≡ suc (l.i - 1) = omega (arith, c.loop-i-test.true) in (
-      omega (arith, l.invariant.far, s.requires.0, z),
-      a.all_of-all.ensures.1,
-      rw a.all_of-all.ensures.0
-          (filled_low (points s.args.news 0 s.args.nx.now s.args.ny.now) s.args.ox.now s.args.oy.now s.args.olds s.args.news l.i (l.i - 1) l.row l.made s.requires.0 z l.invariant),
-      c.offers-d.ensures.1,
-      l.invariant.row_size,
-      l.invariant.made-size,
-    )
 
 pub loop-i-preserved : goal.loop-i-preserved
 loop-i-preserved c =

@@ -5,6 +5,3 @@ use Rattle.pairing.proofs.fill.Given as goal
 
 abbrev pub invariant-loop-i : goal.invariant-loop-i
 invariant-loop-i l = Filled (points l.news 0 l.nx l.ny) l.ox l.oy l.olds l.news l.i l.row l.made
-
-abbrev pub decreases-loop-i : goal.decreases-loop-i
-decreases-loop-i l = l.i

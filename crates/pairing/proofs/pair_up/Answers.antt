@@ -3,34 +3,10 @@ use native.Mathlib.Omega.{arith}
 use Rattle.pairing.proofs.Walked.{walked_start, walked_le, walked_choosable, walked_next, walked_end}
 use Rattle.pairing.proofs.pair_up.Goals as goal
 
-pub fill-made-requires : goal.fill-made-requires
-fill-made-requires c = c.requires
-
-pub all_of-free-requires : goal.all_of-free-requires
-all_of-free-requires c = c.requires.1
-
 pub loop-i-init : goal.loop-i-init
 loop-i-init c =
     let s = c in
     walked_start s.args.nx.now s.args.ny.now s.args.ox.now s.args.oy.now s.args.news s.args.olds s.requires.1 s.requires.0 c.all_of-free.result c.all_of-free.ensures.0
-
-pub overflow_mul-c : goal.overflow_mul-c
-overflow_mul-c c = omega (arith, c.loop-i.invariant.set, c.all_of-free.ensures.0, c.all_of-free.ensures.1, c.requires.0, c.loop-i-test.true)
-
-pub overflow_add-c : goal.overflow_add-c
-overflow_add-c c = omega (arith, c.loop-i.invariant.set, c.all_of-free.ensures.0, c.all_of-free.ensures.1, c.requires.0, c.loop-i-test.true)
-
-pub bounds-made-i : goal.bounds-made-i
-bounds-made-i c = omega (arith, c.loop-i.invariant.set, c.all_of-free.ensures.0, c.all_of-free.ensures.1, c.requires.0, c.loop-i-test.true)
-
-pub bounds-out-i : goal.bounds-out-i
-bounds-out-i c = omega (arith, c.loop-i.invariant.set, c.all_of-free.ensures.0, c.all_of-free.ensures.1, c.requires.0, c.loop-i-test.true)
-
-pub overflow_cast-c : goal.overflow_cast-c
-overflow_cast-c c =
-    let s = c in
-    let l = c.loop-i in
-    omega (arith, walked_le s.args.nx.now s.args.ny.now s.args.ox.now s.args.oy.now s.args.news s.args.olds s.requires.1 s.requires.0 c.fill-made.result l.out l.free l.i c.fill-made.ensures l.invariant c.loop-i-test.true)
 
 pub less-free-requires : goal.less-free-requires
 less-free-requires c =

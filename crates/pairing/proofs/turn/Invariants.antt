@@ -4,6 +4,3 @@ use Rattle.pairing.proofs.turn.Given as goal
 
 abbrev pub invariant-loop-free : goal.invariant-loop-free
 invariant-loop-free l = Part l.offers l.initial.row l.row l.initial.made l.made l.i l.all l.free
-
-abbrev pub decreases-loop-free : goal.decreases-loop-free
-decreases-loop-free l = l.free

@@ -1,14 +1,7 @@
 -- `panel::rest_unused` tells whether the records from n up were never used. The loop has passed those below i. Assumes nothing.
 use mathlib.Core.Path.{◌≡◌}
-use Prim.Native.Nat.{◌-◌}
-use lib.ListN.{drop}
-use Rattle.model.specs.Panel.{records}
-use Rattle.model.specs.Table.{eq_table}
-use Rattle.panel.specs.Seen.{table_of, unused_all}
+use Rattle.panel.proofs.Tables.{rest_good}
 use Rattle.panel.proofs.rest_unused.Given as goal
 
 abbrev pub invariant-loop-i : goal.invariant-loop-i
-invariant-loop-i l = eq_table (table_of (drop l.n l.t)) (table_of (drop l.n unused_all)) ≡ eq_table (table_of (drop l.i l.t)) (table_of (drop l.i unused_all))
-
-abbrev pub decreases-loop-i : goal.decreases-loop-i
-decreases-loop-i l = records - l.i
+invariant-loop-i l = rest_good l.t l.n ≡ rest_good l.t l.i

@@ -1,6 +1,6 @@
 -- `panel::slots_ok` tells whether the panel's slots are good. The loop has passed i good ones. Assumes nothing.
 use mathlib.Core.Path.{◌≡◌}
-use Prim.Native.Nat.{◌≤◌, ◌-◌}
+use Prim.Native.Nat.{◌-◌}
 use lib.ListN.{take, drop}
 use Rattle.model.specs.Table.{good_records}
 use Rattle.panel.specs.Seen.{table_of, fields_of}
@@ -8,7 +8,4 @@ use Rattle.panel.proofs.slots_ok.Given as goal
 
 abbrev pub invariant-loop-i : goal.invariant-loop-i
 invariant-loop-i l =
-    (l.i ≤ l.n) × (good_records (fields_of l.setup) l.n (table_of (take l.n l.t)) ≡ good_records (fields_of l.setup) (l.n - l.i) (table_of (drop l.i (take l.n l.t))))
-
-abbrev pub decreases-loop-i : goal.decreases-loop-i
-decreases-loop-i l = l.n - l.i
+    good_records (fields_of l.setup) l.setup.n (table_of (take l.setup.n l.t)) ≡ good_records (fields_of l.setup) (l.setup.n - l.i) (table_of (drop l.i (take l.setup.n l.t)))

@@ -11,20 +11,18 @@ use Rattle.reader.specs.Seen.{AnswersAs}
 use Rattle.pieces.specs.Seen.{seen}
 use Rattle.pieces.proofs.ask.Goals as goal
 
-pub returns-then-not-left_ok : goal.returns-then-not-left_ok
-returns-then-not-left_ok c =
+pub returns-then-left_ok : goal.returns-then-left_ok
+returns-then-left_ok c =
     let a = c.args in
-    let k = c.left_ok in
     let s = seen a.state in
-    let bad = sym k.ensures ∙ c.if-not-left_ok.true in
-    let e = ask_by_left base s a.slot.0 ∙ ap (λ b. cond b (ask_call base s.reader a.slot.0) (refused C.state)) bad in
-    subst (λ q. AnswersAs q (Refused State)) (sym e) (record { answer = refl; number = refl; values = refl })
-
-pub returns : goal.returns
-returns c =
-    let a = c.args in
-    let k = c.left_ok in
-    let s = seen a.state in
-    let good = sym k.ensures ∙ c.if-not-left_ok.false in
+    let good = sym c.left_ok.ensures ∙ c.if-left_ok.true in
     let e = ask_by_left base s a.slot.0 ∙ ap (λ b. cond b (ask_call base s.reader a.slot.0) (refused C.state)) good in
     subst (λ q. AnswersAs q c.ask.result) (sym e) c.ask.ensures
+
+pub returns-else-left_ok : goal.returns-else-left_ok
+returns-else-left_ok c =
+    let a = c.args in
+    let s = seen a.state in
+    let bad = sym c.left_ok.ensures ∙ c.if-left_ok.false in
+    let e = ask_by_left base s a.slot.0 ∙ ap (λ b. cond b (ask_call base s.reader a.slot.0) (refused C.state)) bad in
+    subst (λ q. AnswersAs q (Refused State)) (sym e) (record { answer = refl; number = refl; values = refl })

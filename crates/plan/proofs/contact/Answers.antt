@@ -33,9 +33,9 @@ returns c =
     let s = one in
     let r = s.args.r in
     let f = fitting (goal.at.returns s).Start in
-    let x = own _ r.x f.x one.bits_of-a.ensures in
-    let y = own _ r.y f.y two.bits_of-b.ensures in
-    let p = own _ r.pressure f.pressure three.bits_of-c.ensures in
-    let a = own _ r.major f.major four.bits_of-d.ensures in
-    let i = own _ r.minor f.minor c.bits_of-e.ensures in
+    let x = own _ r.x f.x one.bits_of.ensures in
+    let y = own _ r.y f.y two.bits_of-2.ensures in
+    let p = own _ r.pressure f.pressure three.bits_of-3.ensures in
+    let a = own _ r.major f.major four.bits_of-4.ensures in
+    let i = own _ r.minor f.minor c.bits_of-5.ensures in
     λ t. record { id = s.args.id; x = x t; y = y t; pressure = p t; major = a t; minor = i t }

@@ -212,65 +212,39 @@ loop-s-init c =
       tells = p.tells;
     }
 
-pub overflow_mul-s : goal.overflow_mul-s
-overflow_mul-s c =
-    let st = c in
-    omega (arith, c.loop-s-test.true, (small st.args.setup st.requires.given.setup).n)
-
-pub row_at-r-requires : goal.row_at-r-requires
-row_at-r-requires c =
-    let st = c in
-    omega (arith, c.loop-s-test.true, st.requires.given.size)
-
-pub offset_bounds-t-s : goal.offset_bounds-t-s
-offset_bounds-t-s c =
-    let i = c in
-    let st = i in
-    omega (arith, i.loop-s-test.true, (small st.args.setup st.requires.given.setup).n)
-
-pub bounds-t-s : goal.bounds-t-s
-bounds-t-s c =
-    let i = c in
-    let st = i in
-    omega (arith, i.loop-s-test.true, (small st.args.setup st.requires.given.setup).n)
-
-pub overflow_add-s : goal.overflow_add-s
-overflow_add-s c = omega (arith, below (goal.at.overflow_add-s c).After-quiet, few (goal.at.overflow_add-s c).After-quiet)
-
-pub loop-s-smaller-then-quiet : goal.loop-s-smaller-then-quiet
-loop-s-smaller-then-quiet c = omega (arith, below (goal.at.loop-s-smaller-then-quiet c).After-quiet)
-
 pub loop-s-preserved-then-quiet : goal.loop-s-preserved-then-quiet
 loop-s-preserved-then-quiet c =
+    let at = goal.at.loop-s-preserved-then-quiet c in
     let b = c in
-    let q = sym (ap (quiet_row (get_or (t (goal.at.loop-s-preserved-then-quiet b).After-quiet) (s (goal.at.loop-s-preserved-then-quiet b).After-quiet) blank)) b.row_at-r.ensures) ∙ sym b.quiet.ensures ∙ c.if-quiet.true in
-    let fits = subst Of32 b.row_at-r.ensures (fitting (goal.at.loop-s-preserved-then-quiet b).After-row_at-r) in
-    let rests = still (u (goal.at.loop-s-preserved-then-quiet b).After-quiet) (get_or (t (goal.at.loop-s-preserved-then-quiet b).After-quiet) (s (goal.at.loop-s-preserved-then-quiet b).After-quiet) blank) (was_good (goal.at.loop-s-preserved-then-quiet b).After-quiet) (good-setup (goal.at.loop-s-preserved-then-quiet b).After-quiet) (fr (goal.at.loop-s-preserved-then-quiet b).After-quiet) (per_slot * s (goal.at.loop-s-preserved-then-quiet b).After-quiet) fits q in
+    let q = sym (ap (quiet_row (get_or (t at.After-quiet) (s at.After-quiet) blank)) b.row_at-r.ensures) ∙ sym b.quiet.ensures ∙ c.if-quiet.true in
+    let fits = subst Of32 b.row_at-r.ensures (fitting at.After-row_at-r) in
+    let rests = still (u at.After-quiet) (get_or (t at.After-quiet) (s at.After-quiet) blank) (was_good at.After-quiet) (good-setup at.After-quiet) (fr at.After-quiet) (per_slot * s at.After-quiet) fits q in
     record {
-      inside = omega (arith, below (goal.at.loop-s-preserved-then-quiet b).After-quiet);
-      few_taken = omega (arith, (known (goal.at.loop-s-preserved-then-quiet b).After-quiet).few_taken);
-      counts = (known (goal.at.loop-s-preserved-then-quiet b).After-quiet).counts;
-      slots = (known (goal.at.loop-s-preserved-then-quiet b).After-quiet).slots;
-      places = (known (goal.at.loop-s-preserved-then-quiet b).After-quiet).places;
-      met = (known (goal.at.loop-s-preserved-then-quiet b).After-quiet).met;
-      good = good-on (goal.at.loop-s-preserved-then-quiet b).After-quiet rests.good;
-      whole = steady (goal.at.loop-s-preserved-then-quiet b).After-quiet (get_or (t (goal.at.loop-s-preserved-then-quiet b).After-quiet) (s (goal.at.loop-s-preserved-then-quiet b).After-quiet) blank) (rests.slot (free_id (take b.loop-s.m b.loop-s.taken) b.loop-s.k)) rests.goes ∙ ap (λ l. plan_from (take b.loop-s.m b.loop-s.taken) b.loop-s.k (n (goal.at.loop-s-preserved-then-quiet b).After-quiet) (fr (goal.at.loop-s-preserved-then-quiet b).After-quiet) l (s (goal.at.loop-s-preserved-then-quiet b).After-quiet + 1)) (set-get_or (t (goal.at.loop-s-preserved-then-quiet b).After-quiet) (s (goal.at.loop-s-preserved-then-quiet b).After-quiet) blank);
-      tells = told-on (old (goal.at.loop-s-preserved-then-quiet b).After-quiet) (t (goal.at.loop-s-preserved-then-quiet b).After-quiet) (s (goal.at.loop-s-preserved-then-quiet b).After-quiet) (in_old (goal.at.loop-s-preserved-then-quiet b).After-quiet) (inside (goal.at.loop-s-preserved-then-quiet b).After-quiet) b.loop-s.changes (known (goal.at.loop-s-preserved-then-quiet b).After-quiet).tells;
+      inside = omega (arith, below at.After-quiet);
+      few_taken = omega (arith, (known at.After-quiet).few_taken);
+      counts = (known at.After-quiet).counts;
+      slots = (known at.After-quiet).slots;
+      places = (known at.After-quiet).places;
+      met = (known at.After-quiet).met;
+      good = good-on at.After-quiet rests.good;
+      whole = steady at.After-quiet (get_or (t at.After-quiet) (s at.After-quiet) blank) (rests.slot (free_id (take b.loop-s.m b.loop-s.taken) b.loop-s.k)) rests.goes ∙ ap (λ l. plan_from (take b.loop-s.m b.loop-s.taken) b.loop-s.k (n at.After-quiet) (fr at.After-quiet) l (s at.After-quiet + 1)) (set-get_or (t at.After-quiet) (s at.After-quiet) blank);
+      tells = told-on (old at.After-quiet) (t at.After-quiet) (s at.After-quiet) (in_old at.After-quiet) (inside at.After-quiet) b.loop-s.changes (known at.After-quiet).tells;
     }
 
 pub row_ok-requires : goal.row_ok-requires
 row_ok-requires c =
-    let b = c in
-    let m = small (u (goal.at.row_ok-requires b).After-quiet) (good-setup (goal.at.row_ok-requires b).After-quiet) in
+    let here = (goal.at.row_ok-requires c).After-quiet in
+    let m = small (u here) (good-setup here) in
     record { x = omega (arith, m.x); y = omega (arith, m.y); pressure = omega (arith, m.pressure); major = omega (arith, m.major); minor = omega (arith, m.minor) }
 
 pub returns-then-not-row_ok : goal.returns-then-not-row_ok
 returns-then-not-row_ok c =
+    let at = goal.at.returns-then-not-row_ok c in
     let j = c in
     let b = j in
     let a = b.args in
-    let bad = good-here (goal.at.returns-then-not-row_ok b).After-quiet ∙ first-false _ _ (sym (row-judged (goal.at.returns-then-not-row_ok j).After-row_ok) ∙ c.if-not-row_ok.true) in
-    subst (λ v. PlansBy v (n (goal.at.returns-then-not-row_ok b).After-quiet) (old (goal.at.returns-then-not-row_ok b).After-quiet) a.counter (plan_from (ids (table_of (old (goal.at.returns-then-not-row_ok b).After-quiet))) a.counter (n (goal.at.returns-then-not-row_ok b).After-quiet) (fr (goal.at.returns-then-not-row_ok b).After-quiet) a.made a.from.slot) c.refused.result) (sym bad) c.refused.ensures
+    let bad = good-here at.After-quiet ∙ first-false _ _ (sym (row-judged at.After-row_ok) ∙ c.if-not-row_ok.true) in
+    subst (λ v. PlansBy v (n at.After-quiet) (old at.After-quiet) a.counter (plan_from (ids (table_of (old at.After-quiet))) a.counter (n at.After-quiet) (fr at.After-quiet) a.made a.from.slot) c.refused.result) (sym bad) c.refused.ensures
 
 pub slice_bounds-taken-end-then-begins : goal.slice_bounds-taken-end-then-begins
 slice_bounds-taken-end-then-begins c = omega (arith, placed (goal.at.slice_bounds-taken-end-then-begins c).After-quiet)
@@ -283,136 +257,89 @@ slice_bounds-choose-end c =
 
 pub choose-j-requires : goal.choose-j-requires
 choose-j-requires c =
+    let here = (goal.at.choose-j-requires c).After-quiet in
     let b = c in
-    let fit : b.loop-s.m ≤ length b.loop-s.taken = omega (arith, placed (goal.at.choose-j-requires b).After-quiet) in
+    let fit : b.loop-s.m ≤ length b.loop-s.taken = omega (arith, placed here) in
     let few : length (take b.loop-s.m b.loop-s.taken) ≡ b.loop-s.m = length-take-le b.loop-s.m b.loop-s.taken fit in
-    (omega (arith, placed (goal.at.choose-j-requires b).After-quiet, (known (goal.at.choose-j-requires b).After-quiet).places), (known (goal.at.choose-j-requires b).After-quiet).counts, (known (goal.at.choose-j-requires b).After-quiet).met)
+    (omega (arith, placed here, (known here).places), (known here).counts, (known here).met)
 
 pub id_of-v-requires : goal.id_of-v-requires
 id_of-v-requires c = c.choose-j.ensures.0
 
-pub offset_bounds-t-s-then-begins : goal.offset_bounds-t-s-then-begins
-offset_bounds-t-s-then-begins c =
-    let b = c in
-    omega (arith, below (goal.at.offset_bounds-t-s-then-begins b).After-quiet, few (goal.at.offset_bounds-t-s-then-begins b).After-quiet)
-
-pub bounds-t-s-then-begins : goal.bounds-t-s-then-begins
-bounds-t-s-then-begins c =
-    let b = c in
-    omega (arith, below (goal.at.bounds-t-s-then-begins b).After-quiet, few (goal.at.bounds-t-s-then-begins b).After-quiet)
-
 pub with_slot-changes-requires : goal.with_slot-changes-requires
 with_slot-changes-requires c =
-    let b = c in
-    (omega (arith, below (goal.at.with_slot-changes-requires b).After-quiet, few (goal.at.with_slot-changes-requires b).After-quiet), c.differ.ensures.0, (known (goal.at.with_slot-changes-requires b).After-quiet).tells.before)
-
-pub offset_bounds-taken-m : goal.offset_bounds-taken-m
-offset_bounds-taken-m c =
-    let b = c in
-    omega (arith, placed (goal.at.offset_bounds-taken-m b).After-quiet, (known (goal.at.offset_bounds-taken-m b).After-quiet).places)
-
-pub bounds-taken-m : goal.bounds-taken-m
-bounds-taken-m c =
-    let b = c in
-    omega (arith, placed (goal.at.bounds-taken-m b).After-quiet, (known (goal.at.bounds-taken-m b).After-quiet).places)
+    let here = (goal.at.with_slot-changes-requires c).After-quiet in
+    (omega (arith, below here, few here), c.differ.ensures.0, (known here).tells.before)
 
 pub mark_of-held-requires : goal.mark_of-held-requires
 mark_of-held-requires c = c.choose-j.ensures.0
 
 pub overflow_add-m : goal.overflow_add-m
 overflow_add-m c =
-    let b = c in
-    omega (arith, placed (goal.at.overflow_add-m b).After-quiet, (known (goal.at.overflow_add-m b).After-quiet).places)
+    let here = (goal.at.overflow_add-m c).After-quiet in
+    omega (arith, placed here, (known here).places)
 
 pub after-k-requires : goal.after-k-requires
 after-k-requires c = c.choose-j.ensures.0
 
-pub overflow_add-s-then-begins : goal.overflow_add-s-then-begins
-overflow_add-s-then-begins c =
-    let b = c in
-    omega (arith, below (goal.at.overflow_add-s-then-begins b).After-quiet, few (goal.at.overflow_add-s-then-begins b).After-quiet)
-
-pub loop-s-smaller-then-begins : goal.loop-s-smaller-then-begins
-loop-s-smaller-then-begins c =
-    let b = c in
-    omega (arith, below (goal.at.loop-s-smaller-then-begins b).After-quiet)
-
 pub loop-s-preserved-then-begins : goal.loop-s-preserved-then-begins
 loop-s-preserved-then-begins c =
+    let at = goal.at.loop-s-preserved-then-begins c in
     let d = c in
     let b = d in
     let j = (free_id (take b.loop-s.m b.loop-s.taken) b.loop-s.k) in
-    let yes : begun (fate (Turn.kind (fr (goal.at.loop-s-preserved-then-begins b).After-quiet) (s (goal.at.loop-s-preserved-then-begins b).After-quiet)) (get_or (t (goal.at.loop-s-preserved-then-begins b).After-quiet) (s (goal.at.loop-s-preserved-then-begins b).After-quiet) blank).id.0) ≡ true = sym (begins-is (goal.at.loop-s-preserved-then-begins d).After-begins) ∙ c.if-begins.true in
+    let yes : begun (fate (Turn.kind (fr at.After-quiet) (s at.After-quiet)) (get_or (t at.After-quiet) (s at.After-quiet) blank).id.0) ≡ true = sym (begins-is at.After-begins) ∙ c.if-begins.true in
     let id = c.id_of-v in
     let ji : c.choose-j.result ≡ j = c.choose-j.ensures.1 in
     let fi : SFits w32 id.result.0 = search rules in
     let v : id.result.0 ≡ pos j = ap (λ (x : TrackingId). x.0) id.ensures ∙ ap pos ji in
     let w = c.contact-w.result in
-    let e : w ≡ contact_of (pos j) (Turn.row (fr (goal.at.loop-s-preserved-then-begins b).After-quiet) (s (goal.at.loop-s-preserved-then-begins b).After-quiet)) = c.contact-w.ensures ∙ ap₂ contact_of v b.row_at-r.ensures in
+    let e : w ≡ contact_of (pos j) (Turn.row (fr at.After-quiet) (s at.After-quiet)) = c.contact-w.ensures ∙ ap₂ contact_of v b.row_at-r.ensures in
     let m = b.loop-s.m in
     let more = take (m + 1) (set b.loop-s.taken m (pos j)) in
-    let last : more ≡ (take b.loop-s.m b.loop-s.taken) ++ pos j ∷ [] = rw add-one (take-suc-set b.loop-s.taken m (pos j) (placed (goal.at.loop-s-preserved-then-begins b).After-quiet)) in
-    let same : Same (taken_after (fate (Turn.kind (fr (goal.at.loop-s-preserved-then-begins b).After-quiet) (s (goal.at.loop-s-preserved-then-begins b).After-quiet)) (get_or (t (goal.at.loop-s-preserved-then-begins b).After-quiet) (s (goal.at.loop-s-preserved-then-begins b).After-quiet) blank).id.0) j (take b.loop-s.m b.loop-s.taken)) more = rw (last, begun-taken (fate (Turn.kind (fr (goal.at.loop-s-preserved-then-begins b).After-quiet) (s (goal.at.loop-s-preserved-then-begins b).After-quiet)) (get_or (t (goal.at.loop-s-preserved-then-begins b).After-quiet) (s (goal.at.loop-s-preserved-then-begins b).After-quiet) blank).id.0) j (take b.loop-s.m b.loop-s.taken) yes) (same-last (pos j) (take b.loop-s.m b.loop-s.taken)) in
-    let count : counter_after (fate (Turn.kind (fr (goal.at.loop-s-preserved-then-begins b).After-quiet) (s (goal.at.loop-s-preserved-then-begins b).After-quiet)) (get_or (t (goal.at.loop-s-preserved-then-begins b).After-quiet) (s (goal.at.loop-s-preserved-then-begins b).After-quiet) blank).id.0) j b.loop-s.k ≡ c.after-k.result =
-    begun-counter (fate (Turn.kind (fr (goal.at.loop-s-preserved-then-begins b).After-quiet) (s (goal.at.loop-s-preserved-then-begins b).After-quiet)) (get_or (t (goal.at.loop-s-preserved-then-begins b).After-quiet) (s (goal.at.loop-s-preserved-then-begins b).After-quiet) blank).id.0) j b.loop-s.k yes ∙ sym (c.after-k.ensures ∙ ap next ji) in
-    let slot = ap slot_of e ∙ begun-slot (get_or (t (goal.at.loop-s-preserved-then-begins b).After-quiet) (s (goal.at.loop-s-preserved-then-begins b).After-quiet) blank) (fr (goal.at.loop-s-preserved-then-begins b).After-quiet) (per_slot * s (goal.at.loop-s-preserved-then-begins b).After-quiet) j yes (plain (goal.at.loop-s-preserved-then-begins d).After-begins) in
+    let last : more ≡ (take b.loop-s.m b.loop-s.taken) ++ pos j ∷ [] = rw add-one (take-suc-set b.loop-s.taken m (pos j) (placed at.After-quiet)) in
+    let same : Same (taken_after (fate (Turn.kind (fr at.After-quiet) (s at.After-quiet)) (get_or (t at.After-quiet) (s at.After-quiet) blank).id.0) j (take b.loop-s.m b.loop-s.taken)) more = rw (last, begun-taken (fate (Turn.kind (fr at.After-quiet) (s at.After-quiet)) (get_or (t at.After-quiet) (s at.After-quiet) blank).id.0) j (take b.loop-s.m b.loop-s.taken) yes) (same-last (pos j) (take b.loop-s.m b.loop-s.taken)) in
+    let count : counter_after (fate (Turn.kind (fr at.After-quiet) (s at.After-quiet)) (get_or (t at.After-quiet) (s at.After-quiet) blank).id.0) j b.loop-s.k ≡ c.after-k.result =
+    begun-counter (fate (Turn.kind (fr at.After-quiet) (s at.After-quiet)) (get_or (t at.After-quiet) (s at.After-quiet) blank).id.0) j b.loop-s.k yes ∙ sym (c.after-k.ensures ∙ ap next ji) in
+    let slot = ap slot_of e ∙ begun-slot (get_or (t at.After-quiet) (s at.After-quiet) blank) (fr at.After-quiet) (per_slot * s at.After-quiet) j yes (plain at.After-begins) in
     let bit : c.mark_of-held.result ≡ bit_of (pos j) = c.mark_of-held.ensures ∙ ap (λ x. bit_of (pos x)) ji in
-    let met : Met (bit_or b.loop-s.held (bit_of (pos j))) more = rw last (met_join b.loop-s.held (take b.loop-s.m b.loop-s.taken) (pos j) (known (goal.at.loop-s-preserved-then-begins b).After-quiet).met) in
+    let met : Met (bit_or b.loop-s.held (bit_of (pos j))) more = rw last (met_join b.loop-s.held (take b.loop-s.m b.loop-s.taken) (pos j) (known at.After-quiet).met) in
     rw (to_z-of_z w32 id.result.0 fi, v) (record {
-      inside = omega (arith, below (goal.at.loop-s-preserved-then-begins b).After-quiet);
-      few_taken = omega (arith, (known (goal.at.loop-s-preserved-then-begins b).After-quiet).few_taken);
+      inside = omega (arith, below at.After-quiet);
+      few_taken = omega (arith, (known at.After-quiet).few_taken);
       counts = omega (arith, c.after-k.ensures);
-      slots = length-set (t (goal.at.loop-s-preserved-then-begins b).After-quiet) (s (goal.at.loop-s-preserved-then-begins b).After-quiet) w ∙ (known (goal.at.loop-s-preserved-then-begins b).After-quiet).slots;
-      places = length-set b.loop-s.taken m (pos j) ∙ (known (goal.at.loop-s-preserved-then-begins b).After-quiet).places;
+      slots = length-set (t at.After-quiet) (s at.After-quiet) w ∙ (known at.After-quiet).slots;
+      places = length-set b.loop-s.taken m (pos j) ∙ (known at.After-quiet).places;
       met = subst (λ x. Met (bit_or b.loop-s.held x) more) (sym bit) met;
-      good = good-on (goal.at.loop-s-preserved-then-begins b).After-quiet (good-row (goal.at.loop-s-preserved-then-begins d).After-begins);
-      whole = turned (goal.at.loop-s-preserved-then-begins b).After-quiet w more c.after-k.result slot same count;
-      tells = rw c.with_slot-changes.ensures (telling (goal.at.loop-s-preserved-then-begins b).After-quiet w c.differ.result c.differ.ensures.0 c.differ.ensures.1);
+      good = good-on at.After-quiet (good-row at.After-begins);
+      whole = turned at.After-quiet w more c.after-k.result slot same count;
+      tells = rw c.with_slot-changes.ensures (telling at.After-quiet w c.differ.result c.differ.ensures.0 c.differ.ensures.1);
     })
 
-pub offset_bounds-t-s-else-begins : goal.offset_bounds-t-s-else-begins
-offset_bounds-t-s-else-begins c =
-    let b = c in
-    omega (arith, below (goal.at.offset_bounds-t-s-else-begins b).After-quiet, few (goal.at.offset_bounds-t-s-else-begins b).After-quiet)
-
-pub bounds-t-s-else-begins : goal.bounds-t-s-else-begins
-bounds-t-s-else-begins c =
-    let b = c in
-    omega (arith, below (goal.at.bounds-t-s-else-begins b).After-quiet, few (goal.at.bounds-t-s-else-begins b).After-quiet)
-
-pub with_slot-changes-requires-else-begins : goal.with_slot-changes-requires-else-begins
-with_slot-changes-requires-else-begins c =
-    let b = c in
-    (omega (arith, below (goal.at.with_slot-changes-requires-else-begins b).After-quiet, few (goal.at.with_slot-changes-requires-else-begins b).After-quiet), c.differ-else-begins.ensures.0, (known (goal.at.with_slot-changes-requires-else-begins b).After-quiet).tells.before)
-
-pub overflow_add-s-else-begins : goal.overflow_add-s-else-begins
-overflow_add-s-else-begins c =
-    let b = c in
-    omega (arith, below (goal.at.overflow_add-s-else-begins b).After-quiet, few (goal.at.overflow_add-s-else-begins b).After-quiet)
-
-pub loop-s-smaller : goal.loop-s-smaller
-loop-s-smaller c =
-    let b = c in
-    omega (arith, below (goal.at.loop-s-smaller b).After-quiet)
+pub with_slot-changes-requires-in-loop-s : goal.with_slot-changes-requires-in-loop-s
+with_slot-changes-requires-in-loop-s c =
+    let here = (goal.at.with_slot-changes-requires-in-loop-s c).After-quiet in
+    (omega (arith, below here, few here), c.differ-in-loop-s.ensures.0, (known here).tells.before)
 
 pub loop-s-preserved : goal.loop-s-preserved
 loop-s-preserved c =
+    let at = goal.at.loop-s-preserved c in
     let d = c in
     let b = d in
-    let no : begun (fate (Turn.kind (fr (goal.at.loop-s-preserved b).After-quiet) (s (goal.at.loop-s-preserved b).After-quiet)) (get_or (t (goal.at.loop-s-preserved b).After-quiet) (s (goal.at.loop-s-preserved b).After-quiet) blank).id.0) ≡ false = sym (begins-is (goal.at.loop-s-preserved d).After-begins) ∙ c.if-begins.false in
+    let no : begun (fate (Turn.kind (fr at.After-quiet) (s at.After-quiet)) (get_or (t at.After-quiet) (s at.After-quiet) blank).id.0) ≡ false = sym (begins-is at.After-begins) ∙ c.if-begins.false in
     let w = c.stays-w.result in
-    let e : w ≡ stayed (eq_z (Turn.kind (fr (goal.at.loop-s-preserved b).After-quiet) (s (goal.at.loop-s-preserved b).After-quiet)) (pos 0)) (get_or (t (goal.at.loop-s-preserved b).After-quiet) (s (goal.at.loop-s-preserved b).After-quiet) blank) (Turn.row (fr (goal.at.loop-s-preserved b).After-quiet) (s (goal.at.loop-s-preserved b).After-quiet)) = c.stays-w.ensures ∙ ap (λ g. stayed (eq_z (kind_of g) (pos 0)) (get_or (t (goal.at.loop-s-preserved b).After-quiet) (s (goal.at.loop-s-preserved b).After-quiet) blank) g) b.row_at-r.ensures in
-    let slot = ap slot_of e ∙ stayed-slot (get_or (t (goal.at.loop-s-preserved b).After-quiet) (s (goal.at.loop-s-preserved b).After-quiet) blank) (fr (goal.at.loop-s-preserved b).After-quiet) (per_slot * s (goal.at.loop-s-preserved b).After-quiet) (free_id (take b.loop-s.m b.loop-s.taken) b.loop-s.k) no (plain (goal.at.loop-s-preserved d).After-begins) in
+    let e : w ≡ stayed (eq_z (Turn.kind (fr at.After-quiet) (s at.After-quiet)) (pos 0)) (get_or (t at.After-quiet) (s at.After-quiet) blank) (Turn.row (fr at.After-quiet) (s at.After-quiet)) = c.stays-w.ensures ∙ ap (λ g. stayed (eq_z (kind_of g) (pos 0)) (get_or (t at.After-quiet) (s at.After-quiet) blank) g) b.row_at-r.ensures in
+    let slot = ap slot_of e ∙ stayed-slot (get_or (t at.After-quiet) (s at.After-quiet) blank) (fr at.After-quiet) (per_slot * s at.After-quiet) (free_id (take b.loop-s.m b.loop-s.taken) b.loop-s.k) no (plain at.After-begins) in
     record {
-      inside = omega (arith, below (goal.at.loop-s-preserved b).After-quiet);
-      few_taken = omega (arith, (known (goal.at.loop-s-preserved b).After-quiet).few_taken);
-      counts = (known (goal.at.loop-s-preserved b).After-quiet).counts;
-      slots = length-set (t (goal.at.loop-s-preserved b).After-quiet) (s (goal.at.loop-s-preserved b).After-quiet) w ∙ (known (goal.at.loop-s-preserved b).After-quiet).slots;
-      places = (known (goal.at.loop-s-preserved b).After-quiet).places;
-      met = (known (goal.at.loop-s-preserved b).After-quiet).met;
-      good = good-on (goal.at.loop-s-preserved b).After-quiet (good-row (goal.at.loop-s-preserved d).After-begins);
-      whole = steady (goal.at.loop-s-preserved b).After-quiet w slot no;
-      tells = rw c.with_slot-changes-else-begins.ensures (telling (goal.at.loop-s-preserved b).After-quiet w c.differ-else-begins.result c.differ-else-begins.ensures.0 c.differ-else-begins.ensures.1);
+      inside = omega (arith, below at.After-quiet);
+      few_taken = omega (arith, (known at.After-quiet).few_taken);
+      counts = (known at.After-quiet).counts;
+      slots = length-set (t at.After-quiet) (s at.After-quiet) w ∙ (known at.After-quiet).slots;
+      places = (known at.After-quiet).places;
+      met = (known at.After-quiet).met;
+      good = good-on at.After-quiet (good-row at.After-begins);
+      whole = steady at.After-quiet w slot no;
+      tells = rw c.with_slot-changes-in-loop-s.ensures (telling at.After-quiet w c.differ-in-loop-s.result c.differ-in-loop-s.ensures.0 c.differ-in-loop-s.ensures.1);
     }
 
 pub returns : goal.returns

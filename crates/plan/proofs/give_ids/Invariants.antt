@@ -1,7 +1,7 @@
 -- `plan::give_ids` judges the rest of a frame's rows, makes its table and counter and tells what changes. The first m of `taken` are the ids taken so far. Assumes nothing.
 use mathlib.Core.Path.{◌≡◌}
 use mathlib.Core.List.{List}
-use Prim.Native.Nat.{ℕ, ◌<◌, ◌≤◌, ◌+◌, ◌-◌, ◌*◌}
+use Prim.Native.Nat.{ℕ, ◌<◌, ◌≤◌, ◌+◌, ◌*◌}
 use lib.IntN.{ℤ}
 use lib.ListN.{length, take}
 use Rattle.model.specs.Panel.{id_count, records}
@@ -29,6 +29,3 @@ pub record Made (u : Setup) (old : List Slot) (frame : List ℤ) (s₀ : ℕ) (p
 abbrev pub invariant-loop-s : goal.invariant-loop-s
 invariant-loop-s l =
     Made l.setup l.old l.frame l.initial.s (plan_from (take l.initial.m l.initial.taken) l.initial.k l.setup.n l.frame l.initial.t l.initial.s) l.taken l.held l.m l.t l.k l.s l.changes
-
-abbrev pub decreases-loop-s : goal.decreases-loop-s
-decreases-loop-s l = l.setup.n - l.s

@@ -37,7 +37,7 @@ use Rattle.plan.proofs.Turn as Turn
 use Rattle.plan.proofs.Turn.{good-plain, stayed-slot, gives-pressure}
 use Rattle.plan.proofs.Skipped.{skipped}
 use Rattle.plan.proofs.plan_frame.Invariants.{Kept}
-use Rattle.plan.proofs.plan_frame.Goals.{After-differ-d, After-row_at-r, After-row_ok, After-same-else-same, After-same-in-loop-s, Else-not-row_ok}
+use Rattle.plan.proofs.plan_frame.Goals.{After-differ-d, After-row_at-r, After-row_ok, After-same-in-loop-s-2, After-same-in-loop-s, Else-not-row_ok}
 use Rattle.plan.proofs.plan_frame.Goals as goal
 
 -- ---- slot s and its row
@@ -63,8 +63,8 @@ fr-at-After-row_ok b = b.args.frame.now
 abbrev fr-at-Else-not-row_ok : Else-not-row_ok → List ℤ
 fr-at-Else-not-row_ok b = b.args.frame.now
 
-abbrev fr-at-After-same-else-same : After-same-else-same → List ℤ
-fr-at-After-same-else-same b = b.args.frame.now
+abbrev fr-at-After-same-in-loop-s-2 : After-same-in-loop-s-2 → List ℤ
+fr-at-After-same-in-loop-s-2 b = b.args.frame.now
 
 abbrev old : After-same-in-loop-s → List Slot
 old b = b.args.old
@@ -87,8 +87,8 @@ s-at-After-row_ok b = b.loop-s.s
 abbrev s-at-Else-not-row_ok : Else-not-row_ok → ℕ
 s-at-Else-not-row_ok b = b.loop-s.s
 
-abbrev s-at-After-same-else-same : After-same-else-same → ℕ
-s-at-After-same-else-same b = b.loop-s.s
+abbrev s-at-After-same-in-loop-s-2 : After-same-in-loop-s-2 → ℕ
+s-at-After-same-in-loop-s-2 b = b.loop-s.s
 
 abbrev t : After-same-in-loop-s → List Slot
 t b = b.loop-s.t
@@ -134,8 +134,8 @@ own-kind-at-Else-not-row_ok b =
     let f : SFits w32 k = search rules in
     to_z-of_z w32 k f ∙ ap kind_of b.row_at-r.ensures
 
-own-kind-at-After-same-else-same : (b : After-same-else-same) → to_z w32 (of_z w32 b.row_at-r.result.first) ≡ (Turn.kind (fr-at-After-same-else-same b) (s-at-After-same-else-same b))
-own-kind-at-After-same-else-same b =
+own-kind-at-After-same-in-loop-s-2 : (b : After-same-in-loop-s-2) → to_z w32 (of_z w32 b.row_at-r.result.first) ≡ (Turn.kind (fr-at-After-same-in-loop-s-2 b) (s-at-After-same-in-loop-s-2 b))
+own-kind-at-After-same-in-loop-s-2 b =
     let k = b.row_at-r.result.first in
     let f : SFits w32 k = search rules in
     to_z-of_z w32 k f ∙ ap kind_of b.row_at-r.ensures
@@ -156,8 +156,8 @@ id-read-at-Else-not-row_ok b =
     let f : SFits w32 (get_or (t-at-Else-not-row_ok b) (s-at-Else-not-row_ok b) blank).id.0 = search rules in
     b.same-in-loop-s.ensures ∙ ap (λ z. eq_z z minus_one) (to_z-of_z w32 (get_or (t-at-Else-not-row_ok b) (s-at-Else-not-row_ok b) blank).id.0 f)
 
-kind-read-0 : (o : After-same-else-same) → o.same-else-same.result ≡ eq_z (Turn.kind (fr-at-After-same-else-same o) (s-at-After-same-else-same o)) (pos 0)
-kind-read-0 o = o.same-else-same.ensures ∙ ap (λ z. eq_z z (pos 0)) (own-kind-at-After-same-else-same o)
+kind-read-0 : (o : After-same-in-loop-s-2) → o.same-in-loop-s-2.result ≡ eq_z (Turn.kind (fr-at-After-same-in-loop-s-2 o) (s-at-After-same-in-loop-s-2 o)) (pos 0)
+kind-read-0 o = o.same-in-loop-s-2.ensures ∙ ap (λ z. eq_z z (pos 0)) (own-kind-at-After-same-in-loop-s-2 o)
 
 -- The row's numbers are of 32 bits.
 fitting : (c : After-row_at-r) → Of32 (row_of c.row_at-r.result)
@@ -290,131 +290,75 @@ loop-s-init c =
       tells = rw c.none-changes.ensures k.tells;
     }
 
-pub overflow_mul-s : goal.overflow_mul-s
-overflow_mul-s c =
-    let st = c in
-    omega (arith, c.loop-s-test.true, (small st.args.setup st.requires.given.setup).n)
-
-pub row_at-r-requires : goal.row_at-r-requires
-row_at-r-requires c = omega (arith, c.loop-s-test.true, c.requires.given.size)
-
-pub offset_bounds-t-s : goal.offset_bounds-t-s
-offset_bounds-t-s c =
-    let st = c in
-    omega (arith, c.loop-s-test.true, (small st.args.setup st.requires.given.setup).n)
-
-pub bounds-t-s : goal.bounds-t-s
-bounds-t-s c =
-    let st = c in
-    omega (arith, c.loop-s-test.true, (small st.args.setup st.requires.given.setup).n)
-
-pub overflow_add-s : goal.overflow_add-s
-overflow_add-s c =
-    let b = c in
-    omega (arith, below (goal.at.overflow_add-s b).After-same-in-loop-s, few (goal.at.overflow_add-s b).After-same-in-loop-s)
-
-pub loop-s-smaller-then-d-was : goal.loop-s-smaller-then-d-was
-loop-s-smaller-then-d-was c = omega (arith, below (goal.at.loop-s-smaller-then-d-was c).After-same-in-loop-s)
-
 pub loop-s-preserved-then-d-was : goal.loop-s-preserved-then-d-was
 loop-s-preserved-then-d-was c =
+    let at = goal.at.loop-s-preserved-then-d-was c in
     let d = c in
     let b = d in
     let zero = eqb→eq d.differ-d.result 0 (holds _ (and_left (eqb d.differ-d.result 0) _ c.if-d-was.true)) in
     let pressed = and_right (eqb d.differ-d.result 0) _ c.if-d-was.true in
-    let fits = subst Of32 b.row_at-r.ensures (fitting (goal.at.loop-s-preserved-then-d-was b).After-row_at-r) in
-    let rests = resting (u (goal.at.loop-s-preserved-then-d-was b).After-same-in-loop-s) (get_or (t (goal.at.loop-s-preserved-then-d-was b).After-same-in-loop-s) (s (goal.at.loop-s-preserved-then-d-was b).After-same-in-loop-s) blank) (was_good (goal.at.loop-s-preserved-then-d-was b).After-same-in-loop-s) (good-setup (goal.at.loop-s-preserved-then-d-was b).After-same-in-loop-s) (fr (goal.at.loop-s-preserved-then-d-was b).After-same-in-loop-s) (per_slot * s (goal.at.loop-s-preserved-then-d-was b).After-same-in-loop-s) fits (kind_1 (goal.at.loop-s-preserved-then-d-was d).After-differ-d) (lives (goal.at.loop-s-preserved-then-d-was d).After-differ-d) pressed (same_by (get_or (t (goal.at.loop-s-preserved-then-d-was b).After-same-in-loop-s) (s (goal.at.loop-s-preserved-then-d-was b).After-same-in-loop-s) blank) (Turn.row (fr (goal.at.loop-s-preserved-then-d-was b).After-same-in-loop-s) (s (goal.at.loop-s-preserved-then-d-was b).After-same-in-loop-s)) (as_was (goal.at.loop-s-preserved-then-d-was d).After-differ-d zero)) in
-    let told = told-on (old (goal.at.loop-s-preserved-then-d-was b).After-same-in-loop-s) (t (goal.at.loop-s-preserved-then-d-was b).After-same-in-loop-s) (s (goal.at.loop-s-preserved-then-d-was b).After-same-in-loop-s) (in_old (goal.at.loop-s-preserved-then-d-was b).After-same-in-loop-s) (inside (goal.at.loop-s-preserved-then-d-was b).After-same-in-loop-s) (changed (goal.at.loop-s-preserved-then-d-was b).After-same-in-loop-s) (known (goal.at.loop-s-preserved-then-d-was b).After-same-in-loop-s).tells in
-    turned (goal.at.loop-s-preserved-then-d-was b).After-same-in-loop-s (get_or (t (goal.at.loop-s-preserved-then-d-was b).After-same-in-loop-s) (s (goal.at.loop-s-preserved-then-d-was b).After-same-in-loop-s) blank) (rests.slot (free_id (ids (table_of (old (goal.at.loop-s-preserved-then-d-was b).After-same-in-loop-s))) b.args.counter)) rests.goes rests.good (t (goal.at.loop-s-preserved-then-d-was b).After-same-in-loop-s) (sym (set-get_or (t (goal.at.loop-s-preserved-then-d-was b).After-same-in-loop-s) (s (goal.at.loop-s-preserved-then-d-was b).After-same-in-loop-s) blank)) (changed (goal.at.loop-s-preserved-then-d-was b).After-same-in-loop-s) told
+    let fits = subst Of32 b.row_at-r.ensures (fitting at.After-row_at-r) in
+    let rests = resting (u at.After-same-in-loop-s) (get_or (t at.After-same-in-loop-s) (s at.After-same-in-loop-s) blank) (was_good at.After-same-in-loop-s) (good-setup at.After-same-in-loop-s) (fr at.After-same-in-loop-s) (per_slot * s at.After-same-in-loop-s) fits (kind_1 at.After-differ-d) (lives at.After-differ-d) pressed (same_by (get_or (t at.After-same-in-loop-s) (s at.After-same-in-loop-s) blank) (Turn.row (fr at.After-same-in-loop-s) (s at.After-same-in-loop-s)) (as_was at.After-differ-d zero)) in
+    let told = told-on (old at.After-same-in-loop-s) (t at.After-same-in-loop-s) (s at.After-same-in-loop-s) (in_old at.After-same-in-loop-s) (inside at.After-same-in-loop-s) (changed at.After-same-in-loop-s) (known at.After-same-in-loop-s).tells in
+    turned at.After-same-in-loop-s (get_or (t at.After-same-in-loop-s) (s at.After-same-in-loop-s) blank) (rests.slot (free_id (ids (table_of (old at.After-same-in-loop-s))) b.args.counter)) rests.goes rests.good (t at.After-same-in-loop-s) (sym (set-get_or (t at.After-same-in-loop-s) (s at.After-same-in-loop-s) blank)) (changed at.After-same-in-loop-s) told
 
 pub row_ok-requires : goal.row_ok-requires
 row_ok-requires c =
-    let b = c in
-    let m = small (u (goal.at.row_ok-requires b).After-same-in-loop-s) (good-setup (goal.at.row_ok-requires b).After-same-in-loop-s) in
+    let here = (goal.at.row_ok-requires c).After-same-in-loop-s in
+    let m = small (u here) (good-setup here) in
     record { x = omega (arith, m.x); y = omega (arith, m.y); pressure = omega (arith, m.pressure); major = omega (arith, m.major); minor = omega (arith, m.minor) }
 
 pub returns-then-not-row_ok : goal.returns-then-not-row_ok
 returns-then-not-row_ok c =
+    let at = goal.at.returns-then-not-row_ok c in
     let j = c in
     let b = j in
-    let bad = (known (goal.at.returns-then-not-row_ok b).After-same-in-loop-s).good ∙ Turn.good_turn (fr (goal.at.returns-then-not-row_ok b).After-same-in-loop-s) (s (goal.at.returns-then-not-row_ok b).After-same-in-loop-s) (n (goal.at.returns-then-not-row_ok b).After-same-in-loop-s) (below (goal.at.returns-then-not-row_ok b).After-same-in-loop-s) (u (goal.at.returns-then-not-row_ok b).After-same-in-loop-s) ∙ first-false _ _ (sym (row-judged (goal.at.returns-then-not-row_ok j).After-row_ok) ∙ c.if-not-row_ok.true) in
-    subst (λ v. PlansBy v (n (goal.at.returns-then-not-row_ok b).After-same-in-loop-s) (old (goal.at.returns-then-not-row_ok b).After-same-in-loop-s) b.args.counter (framed b.args.counter (rows_from per_slot (n (goal.at.returns-then-not-row_ok b).After-same-in-loop-s) (fr (goal.at.returns-then-not-row_ok b).After-same-in-loop-s) 0) (table_of (old (goal.at.returns-then-not-row_ok b).After-same-in-loop-s))) c.refused.result) (sym bad) c.refused.ensures
-
-pub offset_bounds-t-s-else-d-was : goal.offset_bounds-t-s-else-d-was
-offset_bounds-t-s-else-d-was c =
-    let b = c in
-    omega (arith, below (goal.at.offset_bounds-t-s-else-d-was b).After-same-in-loop-s, few (goal.at.offset_bounds-t-s-else-d-was b).After-same-in-loop-s)
-
-pub bounds-t-s-else-d-was : goal.bounds-t-s-else-d-was
-bounds-t-s-else-d-was c =
-    let b = c in
-    omega (arith, below (goal.at.bounds-t-s-else-d-was b).After-same-in-loop-s, few (goal.at.bounds-t-s-else-d-was b).After-same-in-loop-s)
+    let bad = (known at.After-same-in-loop-s).good ∙ Turn.good_turn (fr at.After-same-in-loop-s) (s at.After-same-in-loop-s) (n at.After-same-in-loop-s) (below at.After-same-in-loop-s) (u at.After-same-in-loop-s) ∙ first-false _ _ (sym (row-judged at.After-row_ok) ∙ c.if-not-row_ok.true) in
+    subst (λ v. PlansBy v (n at.After-same-in-loop-s) (old at.After-same-in-loop-s) b.args.counter (framed b.args.counter (rows_from per_slot (n at.After-same-in-loop-s) (fr at.After-same-in-loop-s) 0) (table_of (old at.After-same-in-loop-s))) c.refused.result) (sym bad) c.refused.ensures
 
 pub with_changed-changes-requires : goal.with_changed-changes-requires
 with_changed-changes-requires c =
+    let at = goal.at.with_changed-changes-requires c in
     let d = c in
-    let b = d in
-    (omega (arith, below (goal.at.with_changed-changes-requires b).After-same-in-loop-s, few (goal.at.with_changed-changes-requires b).After-same-in-loop-s), d.differ-d.ensures.0, omega (arith, some (goal.at.with_changed-changes-requires c).Else-not-row_ok), (known (goal.at.with_changed-changes-requires b).After-same-in-loop-s).tells.before)
+    (omega (arith, below at.After-same-in-loop-s, few at.After-same-in-loop-s), d.differ-d.ensures.0, omega (arith, some at.Else-not-row_ok), (known at.After-same-in-loop-s).tells.before)
 
-pub overflow_add-s-else-d-was : goal.overflow_add-s-else-d-was
-overflow_add-s-else-d-was c =
-    let b = c in
-    omega (arith, below (goal.at.overflow_add-s-else-d-was b).After-same-in-loop-s, few (goal.at.overflow_add-s-else-d-was b).After-same-in-loop-s)
-
-pub loop-s-smaller-else-d-was : goal.loop-s-smaller-else-d-was
-loop-s-smaller-else-d-was c = omega (arith, below (goal.at.loop-s-smaller-else-d-was c).After-same-in-loop-s)
-
-pub loop-s-preserved-else-d-was : goal.loop-s-preserved-else-d-was
-loop-s-preserved-else-d-was c =
+pub loop-s-preserved-then-same : goal.loop-s-preserved-then-same
+loop-s-preserved-then-same c =
+    let at = goal.at.loop-s-preserved-then-same c in
     let e = c in
     let d = e in
-    counted (goal.at.loop-s-preserved-else-d-was d).After-same-in-loop-s d.contact-w.result (on-slot (goal.at.loop-s-preserved-else-d-was e).Else-not-row_ok) (not-begun (goal.at.loop-s-preserved-else-d-was d).After-differ-d) (good-row (goal.at.loop-s-preserved-else-d-was e).Else-not-row_ok) d.differ-d.result d.differ-d.ensures c.with_changed-changes.result c.with_changed-changes.ensures
+    counted at.After-same-in-loop-s d.contact-w.result (on-slot at.Else-not-row_ok) (not-begun at.After-differ-d) (good-row at.Else-not-row_ok) d.differ-d.result d.differ-d.ensures c.with_changed-changes.result c.with_changed-changes.ensures
 
 pub give_ids-requires : goal.give_ids-requires
 give_ids-requires c =
+    let here = (goal.at.give_ids-requires c).After-same-in-loop-s in
     let b = c in
-    record { given = b.requires.given; inside = (known (goal.at.give_ids-requires b).After-same-in-loop-s).inside; tells = (known (goal.at.give_ids-requires b).After-same-in-loop-s).tells }
+    record { given = b.requires.given; inside = (known here).inside; tells = (known here).tells }
 
 pub returns-then-not-same : goal.returns-then-not-same
 returns-then-not-same c =
+    let here = (goal.at.returns-then-not-same c).After-same-in-loop-s in
     let b = c in
     let k = b.args.counter in
-    subst (λ v. PlansBy v (n (goal.at.returns-then-not-same b).After-same-in-loop-s) (old (goal.at.returns-then-not-same b).After-same-in-loop-s) k (framed b.args.counter (rows_from per_slot (n (goal.at.returns-then-not-same b).After-same-in-loop-s) (fr (goal.at.returns-then-not-same b).After-same-in-loop-s) 0) (table_of (old (goal.at.returns-then-not-same b).After-same-in-loop-s))) c.give_ids.result) (sym (known (goal.at.returns-then-not-same b).After-same-in-loop-s).good)
-    (subst (λ p. PlansBy (rows_good (u (goal.at.returns-then-not-same b).After-same-in-loop-s) (fr (goal.at.returns-then-not-same b).After-same-in-loop-s) (s (goal.at.returns-then-not-same b).After-same-in-loop-s)) (n (goal.at.returns-then-not-same b).After-same-in-loop-s) (old (goal.at.returns-then-not-same b).After-same-in-loop-s) k p c.give_ids.result) (sym (known (goal.at.returns-then-not-same b).After-same-in-loop-s).whole) c.give_ids.ensures)
-
-pub offset_bounds-t-s-else-same : goal.offset_bounds-t-s-else-same
-offset_bounds-t-s-else-same c =
-    let b = c in
-    omega (arith, below (goal.at.offset_bounds-t-s-else-same b).After-same-in-loop-s, few (goal.at.offset_bounds-t-s-else-same b).After-same-in-loop-s)
-
-pub bounds-t-s-else-same : goal.bounds-t-s-else-same
-bounds-t-s-else-same c =
-    let b = c in
-    omega (arith, below (goal.at.bounds-t-s-else-same b).After-same-in-loop-s, few (goal.at.bounds-t-s-else-same b).After-same-in-loop-s)
+    subst (λ v. PlansBy v (n here) (old here) k (framed b.args.counter (rows_from per_slot (n here) (fr here) 0) (table_of (old here))) c.give_ids.result) (sym (known here).good)
+    (subst (λ p. PlansBy (rows_good (u here) (fr here) (s here)) (n here) (old here) k p c.give_ids.result) (sym (known here).whole) c.give_ids.ensures)
 
 pub with_slot-changes-requires : goal.with_slot-changes-requires
 with_slot-changes-requires c =
-    let b = c in
-    (omega (arith, below (goal.at.with_slot-changes-requires b).After-same-in-loop-s, few (goal.at.with_slot-changes-requires b).After-same-in-loop-s), c.differ.ensures.0, (known (goal.at.with_slot-changes-requires b).After-same-in-loop-s).tells.before)
-
-pub overflow_add-s-else-same : goal.overflow_add-s-else-same
-overflow_add-s-else-same c =
-    let b = c in
-    omega (arith, below (goal.at.overflow_add-s-else-same b).After-same-in-loop-s, few (goal.at.overflow_add-s-else-same b).After-same-in-loop-s)
-
-pub loop-s-smaller : goal.loop-s-smaller
-loop-s-smaller c = omega (arith, below (goal.at.loop-s-smaller c).After-same-in-loop-s)
+    let here = (goal.at.with_slot-changes-requires c).After-same-in-loop-s in
+    (omega (arith, below here, few here), c.differ.ensures.0, (known here).tells.before)
 
 pub loop-s-preserved : goal.loop-s-preserved
 loop-s-preserved c =
+    let at = goal.at.loop-s-preserved c in
     let m = c in
     let o = m in
     let b = o in
-    let is-0 : eq_z (Turn.kind (fr (goal.at.loop-s-preserved b).After-same-in-loop-s) (s (goal.at.loop-s-preserved b).After-same-in-loop-s)) (pos 0) ≡ true = sym (kind-read-0 (goal.at.loop-s-preserved o).After-same-else-same) ∙ m.if-not-same.false in
-    let alive = live (get_or (t (goal.at.loop-s-preserved b).After-same-in-loop-s) (s (goal.at.loop-s-preserved b).After-same-in-loop-s) blank).id.0 in
-    let no-contact = ap (λ z. begun (cond z none (cond (eq_z (Turn.kind (fr (goal.at.loop-s-preserved b).After-same-in-loop-s) (s (goal.at.loop-s-preserved b).After-same-in-loop-s)) (pos 2)) begins (cond alive goes_on begins)))) is-0 in
-    let slot = ap slot_of m.lift-w.ensures ∙ sym (ap (λ z. slot_after (cond z none (cond (eq_z (Turn.kind (fr (goal.at.loop-s-preserved b).After-same-in-loop-s) (s (goal.at.loop-s-preserved b).After-same-in-loop-s)) (pos 2)) begins (cond alive goes_on begins))) (free_id (ids (table_of (old (goal.at.loop-s-preserved b).After-same-in-loop-s))) b.args.counter) (slot_of (get_or (t (goal.at.loop-s-preserved b).After-same-in-loop-s) (s (goal.at.loop-s-preserved b).After-same-in-loop-s) blank)) (numbers_of (Turn.row (fr (goal.at.loop-s-preserved b).After-same-in-loop-s) (s (goal.at.loop-s-preserved b).After-same-in-loop-s)))) is-0) in
-    counted (goal.at.loop-s-preserved b).After-same-in-loop-s m.lift-w.result slot no-contact (or-true _ _ is-0) c.differ.result c.differ.ensures c.with_slot-changes.result c.with_slot-changes.ensures
+    let is-0 : eq_z (Turn.kind (fr at.After-same-in-loop-s) (s at.After-same-in-loop-s)) (pos 0) ≡ true = sym (kind-read-0 at.After-same-in-loop-s-2) ∙ m.if-not-same.false in
+    let alive = live (get_or (t at.After-same-in-loop-s) (s at.After-same-in-loop-s) blank).id.0 in
+    let no-contact = ap (λ z. begun (cond z none (cond (eq_z (Turn.kind (fr at.After-same-in-loop-s) (s at.After-same-in-loop-s)) (pos 2)) begins (cond alive goes_on begins)))) is-0 in
+    let slot = ap slot_of m.lift-w.ensures ∙ sym (ap (λ z. slot_after (cond z none (cond (eq_z (Turn.kind (fr at.After-same-in-loop-s) (s at.After-same-in-loop-s)) (pos 2)) begins (cond alive goes_on begins))) (free_id (ids (table_of (old at.After-same-in-loop-s))) b.args.counter) (slot_of (get_or (t at.After-same-in-loop-s) (s at.After-same-in-loop-s) blank)) (numbers_of (Turn.row (fr at.After-same-in-loop-s) (s at.After-same-in-loop-s)))) is-0) in
+    counted at.After-same-in-loop-s m.lift-w.result slot no-contact (or-true _ _ is-0) c.differ.result c.differ.ensures c.with_slot-changes.result c.with_slot-changes.ensures
 
 pub returns : goal.returns
 returns c =

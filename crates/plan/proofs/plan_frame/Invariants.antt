@@ -1,7 +1,7 @@
 -- `plan::plan_frame` judges the rows of a frame, makes its table and counter and tells what changes, up to the first contact that begins; the rest is `give_ids`'. Assumes nothing.
 use mathlib.Core.Path.{◌≡◌}
 use mathlib.Core.List.{List}
-use Prim.Native.Nat.{ℕ, ◌≤◌, ◌-◌}
+use Prim.Native.Nat.{ℕ, ◌≤◌}
 use lib.IntN.{ℤ}
 use lib.ListN.{length}
 use Rattle.model.specs.Panel.{per_slot, records}
@@ -25,6 +25,3 @@ pub record Kept (u : Setup) (old : List Slot) (counter : ℕ) (frame : List ℤ)
 
 abbrev pub invariant-loop-s : goal.invariant-loop-s
 invariant-loop-s l = Kept l.setup l.old l.counter l.frame l.t l.changes l.s
-
-abbrev pub decreases-loop-s : goal.decreases-loop-s
-decreases-loop-s l = l.setup.n - l.s

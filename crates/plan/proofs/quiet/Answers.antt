@@ -34,12 +34,13 @@ own-at-After-same-2 s = let a = s.args in eq_z a.r.first (pos 1) && (not (eqb a.
 
 pub returns-then-same : goal.returns-then-same
 returns-then-same c =
+    let at = goal.at.returns-then-same c in
     let d = c in
     let a = d.args in
     let k = a.r.first in
     let f : SFits w32 k = search rules in
-    let none = sym (dead (goal.at.returns-then-same d).After-same) ∙ d.if-same.true in
-    c.same-then-same.ensures ∙ ap (λ z. eq_z z (pos 0)) (to_z-of_z w32 k f) ∙ sym (ap (λ b. cond (not b) (own (goal.at.returns-then-same d).Start) (eq_z k (pos 0))) none)
+    let none = sym (dead at.After-same) ∙ d.if-same.true in
+    c.same-then-same.ensures ∙ ap (λ z. eq_z z (pos 0)) (to_z-of_z w32 k f) ∙ sym (ap (λ b. cond (not b) (own at.Start) (eq_z k (pos 0))) none)
 
 kind-is : (k : After-same-2) → k.same-2.result ≡ eq_z k.args.r.first (pos 1)
 kind-is k =
@@ -55,8 +56,8 @@ by_kind k x y ex ey =
     let some = sym (dead-at-After-same-2 e) ∙ e.if-same.false in
     ap₂ ◌&&◌ (sym ex ∙ kind-is k) (sym ey) ∙ sym (ap (λ b. cond (not b) (own-at-After-same-2 k) (eq_z a.r.first (pos 0))) some)
 
-pub returns-then-not-same : goal.returns-then-not-same
-returns-then-not-same c = by_kind (goal.at.returns-then-not-same c).After-same-2 false _ c.if-not-same.true refl
+pub returns-then-same-2 : goal.returns-then-same-2
+returns-then-same-2 c = ap (λ y. not (eqb c.args.was.pressure 0) && y) c.numbers_same.ensures ∙ by_kind (goal.at.returns-then-same-2 c).After-same-2 true _ c.if-same-2.true refl
 
-pub returns : goal.returns
-returns c = ap (λ y. not (eqb c.args.was.pressure 0) && y) c.numbers_same.ensures ∙ by_kind (goal.at.returns c).After-same-2 true _ c.if-not-same.false refl
+pub returns-else-same-2 : goal.returns-else-same-2
+returns-else-same-2 c = c.if-same-2.false ∙ by_kind (goal.at.returns-else-same-2 c).After-same-2 false _ c.if-same-2.false refl

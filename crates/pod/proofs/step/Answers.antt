@@ -42,29 +42,31 @@ returns-then-not-well_formed c =
     let e : well_formed s ≡ false = sym c.well_formed-2.ensures ∙ c.if-not-well_formed.true in
     answers _ _ _ (ap held_step (sym (step-refused s c.args.byte e)))
 
-pub overflow_add-count : goal.overflow_add-count
-overflow_add-count c = omega (arith, (formed (seen c.args.state) (taken c.before.before.before)).few)
+pub overflow_add-state : goal.overflow_add-state
+overflow_add-state c = omega (arith, (formed (seen c.args.state) (taken (goal.at.overflow_add-state c).Else-not-well_formed)).few)
 
-pub bounds-next-count : goal.bounds-next-count
-bounds-next-count c = omega (arith, c.if-count-length_of.true, c.length_of.ensures, lengths (kind_seen c.opened-kind.result))
+pub bounds-next-next : goal.bounds-next-next
+bounds-next-next c = omega (arith, c.if-state-length_of.true, c.length_of.ensures, lengths (kind_seen c.opened-kind.result))
 
-pub returns-then-count-length_of : goal.returns-then-count-length_of
-returns-then-count-length_of c =
+pub returns-then-state-length_of : goal.returns-then-state-length_of
+returns-then-state-length_of c =
     let s = seen c.args.state in
     let b = c.args.byte in
-    let e = kind c.before.before in
-    let l : s.count + 1 < length_of (amended s.waits (first_of (held_in s) b)) = omega (arith, c.if-count-length_of.true, c.length_of.ensures, ap length_of e) in
-    answers _ _ _ (ap held_step (sym (step-more s b (taken c.before.before.before.before.before) l)))
+    let at = goal.at.returns-then-state-length_of c in
+    let e = kind at.After-opened-kind in
+    let l : s.count + 1 < length_of (amended s.waits (first_of (held_in s) b)) = omega (arith, c.if-state-length_of.true, c.length_of.ensures, ap length_of e) in
+    answers _ _ _ (ap held_step (sym (step-more s b (taken at.Else-not-well_formed) l)))
 
 pub returns : goal.returns
 returns c =
     let s = seen c.args.state in
     let b = c.args.byte in
-    let e = kind c.before.before.before.before.before in
+    let at = goal.at.returns c in
+    let e = kind at.After-opened-kind in
     let k = amended s.waits (first_of (held_in s) b) in
     let n = c.length_of.ensures in
-    let l : length_of k ≤ s.count + 1 = omega (arith, c.if-count-length_of.false, n, ap length_of e) in
+    let l : length_of k ≤ s.count + 1 = omega (arith, c.if-state-length_of.false, n, ap length_of e) in
     let q = M.judged k (take (length_of k - 1) s.bytes ++ b ∷ []) in
     answers _ _ _
-    (answered s.waits q c.emptied-empty.ensures c.waits_after.ensures (rw e at c.judge-report.ensures)
-    ∙ ap held_step (sym (step-last s b (taken c.before.before.before.before.before.before.before.before) l)))
+    (answered s.waits q c.emptied.ensures c.waits_after.ensures (rw e at c.judge-report.ensures)
+    ∙ ap held_step (sym (step-last s b (taken at.Else-not-well_formed) l)))

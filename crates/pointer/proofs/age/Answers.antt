@@ -27,17 +27,19 @@ returns-then-not-lives c =
 
 pub returns-then-same : goal.returns-then-same
 returns-then-same c =
+    let at = goal.at.returns-then-same c in
     let k = c in
     let m = k in
     let e = m in
     let a = e.args in
-    let yes : live a.is ≡ true = sym (lives-is (goal.at.returns-then-same e).After-lives) ∙ e.if-not-lives.false in
-    c.wide.ensures ∙ sym (ap₂ (λ b d. age_by (cond b (cond d goes_on begins) none) a.rank) yes (sym (same-is (goal.at.returns-then-same m).After-same) ∙ k.if-same.true))
+    let yes : live a.is ≡ true = sym (lives-is at.After-lives) ∙ e.if-not-lives.false in
+    c.from.ensures ∙ sym (ap₂ (λ b d. age_by (cond b (cond d goes_on begins) none) a.rank) yes (sym (same-is at.After-same) ∙ k.if-same.true))
 
 pub returns : goal.returns
 returns c =
+    let at = goal.at.returns c in
     let m = c in
     let e = m in
     let a = e.args in
-    let yes : live a.is ≡ true = sym (lives-is (goal.at.returns e).After-lives) ∙ e.if-not-lives.false in
-    sym (ap₂ (λ b d. age_by (cond b (cond d goes_on begins) none) a.rank) yes (sym (same-is (goal.at.returns m).After-same) ∙ c.if-same.false))
+    let yes : live a.is ≡ true = sym (lives-is at.After-lives) ∙ e.if-not-lives.false in
+    sym (ap₂ (λ b d. age_by (cond b (cond d goes_on begins) none) a.rank) yes (sym (same-is at.After-same) ∙ c.if-same.false))

@@ -52,12 +52,13 @@ loop-left-init c =
 
 pub returns-then-not-same : goal.returns-then-not-same
 returns-then-not-same c =
+    let at = goal.at.returns-then-not-same c in
     let p = c in
     let i = p in
     let l = i.loop-left in
     let a = i.args in
-    let other = sym (told (goal.at.returns-then-not-same p).After-same) ∙ c.if-not-same.true in
-    sym (l.invariant.rest ∙ stays-not a.old.now a.new.now l.left (nonzero (goal.at.returns-then-not-same i).In-loop-left) l.invariant.bits other)
+    let other = sym (told at.After-same) ∙ c.if-not-same.true in
+    sym (l.invariant.rest ∙ stays-not a.old.now a.new.now l.left (nonzero at.In-loop-left) l.invariant.bits other)
 
 pub loop-left-smaller : goal.loop-left-smaller
 loop-left-smaller c =
@@ -66,14 +67,15 @@ loop-left-smaller c =
 
 pub loop-left-preserved : goal.loop-left-preserved
 loop-left-preserved c =
+    let at = goal.at.loop-left-preserved c in
     let p = c in
     let i = p in
     let l = i.loop-left in
     let a = i.args in
-    let same = sym (told (goal.at.loop-left-preserved p).After-same) ∙ c.if-not-same.false in
+    let same = sym (told at.After-same) ∙ c.if-not-same.false in
     record {
-      bits = omega (arith, fewer l.left (l.left - 1) (omega (arith, nonzero (goal.at.loop-left-preserved i).In-loop-left)), l.invariant.bits);
-      rest = l.invariant.rest ∙ stays-turn a.old.now a.new.now l.left (nonzero (goal.at.loop-left-preserved i).In-loop-left) l.invariant.bits same;
+      bits = omega (arith, fewer l.left (l.left - 1) (omega (arith, nonzero at.In-loop-left)), l.invariant.bits);
+      rest = l.invariant.rest ∙ stays-turn a.old.now a.new.now l.left (nonzero at.In-loop-left) l.invariant.bits same;
     }
 
 pub returns : goal.returns

@@ -1,4 +1,5 @@
 -- `pointer::live_count` counts live ids. The loop has counted those of the first i. Assumes nothing.
+use mathlib.Core.Bool.{Bool, true, false}
 use mathlib.Core.Path.{◌≡◌, sym, ap, ◌∙◌}
 use Prim.Native.Nat.{◌<◌, ◌+◌}
 use native.Mathlib.Omega.{arith}
@@ -12,7 +13,7 @@ use Rattle.model.specs.Ranks.{one_more_if, live_count}
 use Rattle.pointer.proofs.Turns.{live-turn}
 use Rattle.pointer.proofs.Idle.{idle_live}
 use borrow.Author.Rules.{rules}
-use Rattle.pointer.proofs.live_count.Goals.{After-lives}
+use Rattle.pointer.proofs.live_count.Goals.{After-lives, then-lives, else-lives}
 use Rattle.pointer.proofs.live_count.Goals as goal
 
 -- Whether the id that was read is live.
@@ -27,24 +28,16 @@ inside c =
     let s = c in
     omega (arith, c.loop-i-test.true, s.requires.few, s.requires.whole)
 
-pub loop-i-init : goal.loop-i-init
-loop-i-init c =
-    let e : live_count c.args.ids.now ≡ 0 + live_count c.args.ids.now = omega arith in
-    (search rules, search rules, e)
-
-pub loop-i-preserved-then-lives : goal.loop-i-preserved-then-lives
-loop-i-preserved-then-lives c =
-    let l = c.loop-i in
-    let ids = c.args.ids.now in
-    let turn = live-turn ids l.i (inside (goal.at.loop-i-preserved-then-lives c).After-lives) ∙ ap (λ b. one_more_if b (live_count (drop (l.i + 1) ids))) (found (goal.at.loop-i-preserved-then-lives c).After-lives ∙ c.if-lives.true) in
-    (search rules, search rules, omega (arith, l.invariant.2, turn))
-
 pub loop-i-preserved : goal.loop-i-preserved
 loop-i-preserved c =
     let l = c.loop-i in
     let ids = c.args.ids.now in
-    let turn = live-turn ids l.i (inside (goal.at.loop-i-preserved c).After-lives) ∙ ap (λ b. one_more_if b (live_count (drop (l.i + 1) ids))) (found (goal.at.loop-i-preserved c).After-lives ∙ c.if-lives.false) in
-    (search rules, search rules, omega (arith, l.invariant.2, turn))
+    let here = (goal.at.loop-i-preserved c).After-lives in
+    let turn = λ (b : Bool) (e : c.lives.result ≡ b). live-turn ids l.i (inside here) ∙ ap (λ b. one_more_if b (live_count (drop (l.i + 1) ids))) (found here ∙ e) in
+    elim c.if-lives.branch [
+      | then-lives w ↦ (search rules, omega (arith, w.count-is), omega (arith, l.invariant.2, turn true w.if-lives.true, w.count-is))
+      | else-lives w ↦ (search rules, omega (arith, w.count-is), omega (arith, l.invariant.2, turn false w.if-lives.false, w.count-is))
+    ]
 
 pub returns : goal.returns
 returns c =

@@ -1,10 +1,10 @@
 -- `pointer::marks_of` marks the ranks of the contacts that go on. The loop has passed i records. Assumes nothing.
 use mathlib.Core.Path.{◌≡◌, refl, sym, ap, ap₂, ◌∙◌, subst}
 use mathlib.Core.Bool.{◌&&◌}
-use Prim.Native.Nat.{◌<◌, ◌+◌}
+use Prim.Native.Nat.{◌<◌}
 use native.Mathlib.Omega.{arith}
 use lib.IntN.{pos}
-use lib.ListN.{drop, get_or, set, length-set}
+use lib.ListN.{drop, get_or, length-set}
 use mir.Syntax.{w32}
 use mir.Val.{SFits}
 use mir.ValLaws.{to_z-of_z}
@@ -18,7 +18,7 @@ use Rattle.pointer.proofs.Turns.{going_turn, other_turn}
 use Rattle.model.specs.Numbers.{eq_z}
 use Rattle.model.specs.Table.{live}
 use borrow.Author.Rules.{rules}
-use Rattle.pointer.proofs.marks_of.Goals.{After-goes_on}
+use Rattle.pointer.proofs.marks_of.Goals.{After-goes_on, then-goes_on, else-goes_on}
 use Rattle.pointer.proofs.marks_of.Goals as goal
 
 pub loop-i-init : goal.loop-i-init
@@ -37,42 +37,27 @@ found c =
     let g : SFits w32 is = search rules in
     sym (c.goes_on.ensures ∙ ap₂ (λ x y. live y && eq_z x y) (to_z-of_z w32 was f) (to_z-of_z w32 is g))
 
-pub bounds-m-r : goal.bounds-m-r
-bounds-m-r c =
-    let a = c.args in
-    let told = c.requires.0 in
-    let i = c.loop-i.i in
-    omega (arith, told.small i (search rules), c.wide-r.ensures)
-
-pub loop-i-preserved-then-goes_on : goal.loop-i-preserved-then-goes_on
-loop-i-preserved-then-goes_on c =
-    let a = c.args in
-    let told = c.requires.0 in
-    let l = c.loop-i in
-    let r = c.wide-r.ensures in
-    let inside : l.i < records = search rules in
-    let all = ages records (fates_by a.old.now a.new.now) a.ranks.now in
-    let turn = going_turn a.old.now a.new.now a.ranks.now l.i (omega (arith, told.before)) (omega (arith, told.after)) (omega (arith, told.ranked)) l.m all l.invariant.full l.invariant.marks
-    (found (goal.at.loop-i-preserved-then-goes_on c).After-goes_on ∙ c.if-goes_on.true) (omega (arith, told.small l.i inside, l.invariant.full)) in
-    record {
-      inside = search rules;
-      full = length-set l.m c.wide-r.result 1 ∙ l.invariant.full;
-      marks = subst (λ x. Marked (set l.m x 1) (ages records (fates_by (drop (l.i + 1) a.old.now) (drop (l.i + 1) a.new.now)) (drop (l.i + 1) a.ranks.now)) all) (sym r) turn;
-    }
-
 pub loop-i-preserved : goal.loop-i-preserved
 loop-i-preserved c =
     let a = c.args in
     let told = c.requires.0 in
     let l = c.loop-i in
+    let here = (goal.at.loop-i-preserved c).After-goes_on in
     let inside : l.i < records = search rules in
     let all = ages records (fates_by a.old.now a.new.now) a.ranks.now in
-    record {
-      inside = search rules;
-      full = l.invariant.full;
-      marks = other_turn a.old.now a.new.now a.ranks.now l.i (omega (arith, told.before)) (omega (arith, told.after)) (omega (arith, told.ranked)) l.m all l.invariant.full l.invariant.marks
-          (found (goal.at.loop-i-preserved c).After-goes_on ∙ c.if-goes_on.false);
-    }
+    elim c.if-goes_on.branch [
+      | then-goes_on w ↦
+          let turn = going_turn a.old.now a.new.now a.ranks.now l.i (omega (arith, told.before)) (omega (arith, told.after)) (omega (arith, told.ranked)) l.m all l.invariant.full l.invariant.marks
+          (found here ∙ w.if-goes_on.true) (omega (arith, told.small l.i inside, l.invariant.full)) in
+          rw (w.m-is, w.from.ensures) (record { inside = search rules; full = length-set l.m _ 1 ∙ l.invariant.full; marks = turn })
+      | else-goes_on w ↦
+          rw w.m-is (record {
+            inside = search rules;
+            full = l.invariant.full;
+            marks = other_turn a.old.now a.new.now a.ranks.now l.i (omega (arith, told.before)) (omega (arith, told.after)) (omega (arith, told.ranked)) l.m all l.invariant.full l.invariant.marks
+                (found here ∙ w.if-goes_on.false);
+          })
+    ]
 
 pub returns : goal.returns
 returns c =

@@ -1,7 +1,7 @@
 -- `pointer::marks_of` marks the ranks of the contacts that go on. The loop has passed i records. Assumes nothing.
 use mathlib.Core.Path.{◌≡◌}
 use mathlib.Core.List.{List}
-use Prim.Native.Nat.{ℕ, ◌≤◌, ◌-◌}
+use Prim.Native.Nat.{ℕ, ◌≤◌}
 use lib.IntN.{ℤ}
 use lib.ListN.{length, drop}
 use Rattle.model.specs.Panel.{records}
@@ -17,6 +17,3 @@ pub record MarkedTo (n : ℕ) (old new : List ℤ) (ranks m : List ℕ) (i : ℕ
 
 abbrev pub invariant-loop-i : goal.invariant-loop-i
 invariant-loop-i l = MarkedTo l.n l.old l.new l.ranks l.m l.i
-
-abbrev pub decreases-loop-i : goal.decreases-loop-i
-decreases-loop-i l = l.n - l.i

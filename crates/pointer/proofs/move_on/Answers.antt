@@ -1,13 +1,7 @@
 -- `pointer::move_on` moves ranks and what is told, where the option is on. Assumes nothing.
 use mathlib.Core.Path.{refl, sym, subst}
-use Rattle.pointer.specs.Moved.{MovingIf, MovesBy}
+use Rattle.pointer.specs.Moved.{MovesBy}
 use Rattle.pointer.proofs.move_on.Goals as goal
-
-pub moves-requires : goal.moves-requires
-moves-requires c =
-    let s = c in
-    let a = s.args in
-    subst (λ b. MovingIf b a.n a.old a.new a.slots a.last) c.if-on.true s.requires
 
 pub returns-then-on : goal.returns-then-on
 returns-then-on c =

@@ -16,11 +16,11 @@ use Rattle.pointer.proofs.Turns.{oldest_turn}
 use Rattle.pointer.proofs.Idle.{idle_oldest}
 use Rattle.pointer.proofs.Numbers.{oldest_found, oldest_none}
 use borrow.Author.Rules.{rules}
-use Rattle.pointer.proofs.oldest_slot.Goals.{After-shared_slice_known-in-loop-i-1}
+use Rattle.pointer.proofs.oldest_slot.Goals.{After-lives}
 use Rattle.pointer.proofs.oldest_slot.Goals as goal
 
 -- Whether the record is a live one of rank 0.
-found : (c : After-shared_slice_known-in-loop-i-1) → (let a = c.args in let i = c.loop-i.i in
+found : (c : After-lives) → (let a = c.args in let i = c.loop-i.i in
     (live (get_or a.ids.now i (pos 0)) && eqb (get_or a.ranks.now i 0) 0) ≡ (c.lives.result && eqb (get_or a.ranks.now i 0) 0))
 found c =
     let a = c.args in
@@ -29,19 +29,13 @@ found c =
     let f : SFits w32 w = search rules in
     ap (λ b. b && eqb (get_or a.ranks.now i 0) 0) (sym (c.lives.ensures ∙ ap live (to_z-of_z w32 w f)))
 
-pub loop-i-init : goal.loop-i-init
-loop-i-init c =
-    let s = oldest_slot c.args.ids.now c.args.ranks.now in
-    let e : s ≡ 0 + s = omega arith in
-    (search rules, e)
-
 pub returns-then-lives-ranks : goal.returns-then-lives-ranks
 returns-then-lives-ranks c =
     let a = c.args in
     let l = c.loop-i in
     let ids = a.ids.now in
     let ranks = a.ranks.now in
-    let turn = oldest_turn ids ranks l.i (search rules) (search rules) ∙ ap (λ b. cond b 0 (suc (oldest_slot (drop (l.i + 1) ids) (drop (l.i + 1) ranks)))) (found (goal.at.returns-then-lives-ranks c).After-shared_slice_known-in-loop-i-1 ∙ c.if-lives-ranks.true) in
+    let turn = oldest_turn ids ranks l.i (search rules) (search rules) ∙ ap (λ b. cond b 0 (suc (oldest_slot (drop (l.i + 1) ids) (drop (l.i + 1) ranks)))) (found (goal.at.returns-then-lives-ranks c).After-lives ∙ c.if-lives-ranks.true) in
     let e : l.i ≡ oldest_slot ids ranks = omega (arith, l.invariant.1, turn) in
     let inside : l.i < records = search rules in
     (inside, oldest_found (oldest_slot ids ranks) l.i e inside)
@@ -52,7 +46,7 @@ loop-i-preserved c =
     let l = c.loop-i in
     let ids = a.ids.now in
     let ranks = a.ranks.now in
-    let turn = oldest_turn ids ranks l.i (search rules) (search rules) ∙ ap (λ b. cond b 0 (suc (oldest_slot (drop (l.i + 1) ids) (drop (l.i + 1) ranks)))) (found (goal.at.loop-i-preserved c).After-shared_slice_known-in-loop-i-1 ∙ c.if-lives-ranks.false) in
+    let turn = oldest_turn ids ranks l.i (search rules) (search rules) ∙ ap (λ b. cond b 0 (suc (oldest_slot (drop (l.i + 1) ids) (drop (l.i + 1) ranks)))) (found (goal.at.loop-i-preserved c).After-lives ∙ c.if-lives-ranks.false) in
     (search rules, omega (arith, l.invariant.1, turn))
 
 pub returns : goal.returns

@@ -16,10 +16,10 @@ use Rattle.pointer.specs.Seen.{fate_by}
 use Rattle.pointer.specs.Marks.{Sums, age_by}
 use Rattle.pointer.specs.Moved.{Idle}
 use Rattle.pointer.proofs.Idle.{idle_at}
-use Rattle.pointer.proofs.Ranked.{age_small, summed}
+use Rattle.pointer.proofs.Ranked.{summed}
 use borrow.Author.Rules.{rules}
 use Rattle.pointer.proofs.ranks_after.Invariants.{aged}
-use Rattle.pointer.proofs.ranks_after.Goals.{After-age-a}
+use Rattle.pointer.proofs.ranks_after.Goals.{After-age}
 use Rattle.pointer.proofs.ranks_after.Goals as goal
 
 zero-at : (n b : ℕ) → ◌≡◌ {A = ℕ} (get_or (replicate n 0) b 0) 0
@@ -27,10 +27,7 @@ zero-at zero b = refl
 zero-at (suc n) zero = refl
 zero-at (suc n) (suc b) = zero-at n b
 
-pub marks_of-m-requires : goal.marks_of-m-requires
-marks_of-m-requires c = (c.requires.0, c.requires.2)
-
-found : (c : After-age-a) → (let a = c.args in let i = c.loop-i.i in c.age-a.result ≡ aged a.old.now a.new.now a.ranks.now i)
+found : (c : After-age) → (let a = c.args in let i = c.loop-i.i in c.age.result ≡ aged a.old.now a.new.now a.ranks.now i)
 found c =
     let a = c.args in
     let i = c.loop-i.i in
@@ -38,7 +35,7 @@ found c =
     let is = get_or a.new.now i (pos 0) in
     let f : SFits w32 was = search rules in
     let g : SFits w32 is = search rules in
-    c.age-a.ensures ∙ ap₂ (λ x y. age_by (fate_by x y) (get_or a.ranks.now i 0)) (to_z-of_z w32 was f) (to_z-of_z w32 is g)
+    c.age.ensures ∙ ap₂ (λ x y. age_by (fate_by x y) (get_or a.ranks.now i 0)) (to_z-of_z w32 was f) (to_z-of_z w32 is g)
 
 -- One rank more.
 more-told : (old new : List ℤ) (ranks below l : List ℕ) (i v : ℕ) → i < length l → v ≡ get_or below (aged old new ranks i) 0
@@ -54,13 +51,6 @@ more-told old new ranks below l i v room e H b h =
 pub loop-i-init : goal.loop-i-init
 loop-i-init c = record { inside = search rules; full = refl; told = λ b h. absurd (omega arith); zeros = λ b h. zero-at records b }
 
-pub bounds-below-a : goal.bounds-below-a
-bounds-below-a c =
-    let a = c.args in
-    let told = c.requires.0 in
-    let i = c.loop-i.i in
-    omega (arith, found (goal.at.bounds-below-a c).After-age-a, age_small (fate_by (get_or a.old.now i (pos 0)) (get_or a.new.now i (pos 0))) (get_or a.ranks.now i 0) (told.small i (search rules)))
-
 pub loop-i-preserved : goal.loop-i-preserved
 loop-i-preserved c =
     let a = c.args in
@@ -69,7 +59,7 @@ loop-i-preserved c =
     record {
       inside = search rules;
       full = length-set l.l l.i _ ∙ l.invariant.full;
-      told = more-told a.old.now a.new.now a.ranks.now below l.l l.i _ (omega (arith, l.invariant.full)) (ap (λ k. get_or below k 0) (found (goal.at.loop-i-preserved c).After-age-a)) l.invariant.told;
+      told = more-told a.old.now a.new.now a.ranks.now below l.l l.i _ (omega (arith, l.invariant.full)) (ap (λ k. get_or below k 0) (found (goal.at.loop-i-preserved c).After-age)) l.invariant.told;
       zeros = λ b h. get_or-set_other l.l l.i b _ 0 (λ q. omega (arith, h, q)) ∙ l.invariant.zeros b (omega (arith, h));
     }
 

@@ -1,7 +1,7 @@
 -- `pointer::ranks_after` are the ranks after a frame. The loop has made i of them. Assumes nothing.
 use mathlib.Core.Path.{◌≡◌}
 use mathlib.Core.List.{List}
-use Prim.Native.Nat.{ℕ, ◌≤◌, ◌<◌, ◌-◌}
+use Prim.Native.Nat.{ℕ, ◌≤◌, ◌<◌}
 use lib.IntN.{ℤ, pos}
 use lib.ListN.{length, get_or}
 use Rattle.model.specs.Panel.{records}
@@ -21,6 +21,3 @@ pub record RankedTo (n : ℕ) (old new : List ℤ) (ranks below l : List ℕ) (i
 
 abbrev pub invariant-loop-i : goal.invariant-loop-i
 invariant-loop-i l = RankedTo l.n l.old l.new l.ranks l.below l.l l.i
-
-abbrev pub decreases-loop-i : goal.decreases-loop-i
-decreases-loop-i l = l.n - l.i

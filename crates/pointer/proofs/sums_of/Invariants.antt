@@ -1,7 +1,7 @@
 -- `pointer::sums_of` counts the flags below each number. The loop has summed up j flags. Assumes nothing.
 use mathlib.Core.Path.{◌≡◌}
 use mathlib.Core.List.{List}
-use Prim.Native.Nat.{ℕ, suc, ◌≤◌, ◌<◌, ◌-◌}
+use Prim.Native.Nat.{ℕ, suc, ◌≤◌, ◌<◌}
 use lib.Dec.{eqb}
 use lib.ListN.{length, get_or}
 use Rattle.model.specs.Panel.{records}
@@ -17,6 +17,3 @@ pub record SumsTo (m s : List ℕ) (j : ℕ) : Type 0 where
 
 abbrev pub invariant-loop-j : goal.invariant-loop-j
 invariant-loop-j l = SumsTo l.m l.s l.j
-
-abbrev pub decreases-loop-j : goal.decreases-loop-j
-decreases-loop-j l = records - l.j

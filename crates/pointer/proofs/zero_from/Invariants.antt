@@ -9,6 +9,3 @@ use Rattle.pointer.proofs.zero_from.Given as goal
 
 abbrev pub invariant-loop-i : goal.invariant-loop-i
 invariant-loop-i l = (l.i ≤ records) × (zeros (records - l.n) (drop l.n l.ranks) ≡ (not l.some && zeros (records - l.i) (drop l.i l.ranks)))
-
-abbrev pub decreases-loop-i : goal.decreases-loop-i
-decreases-loop-i l = records - l.i

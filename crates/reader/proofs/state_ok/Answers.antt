@@ -4,13 +4,13 @@ use Rattle.model.specs.States.{reader_good}
 use Rattle.panel.proofs.Setups.{small}
 use Rattle.reader.proofs.state_ok.Goals as goal
 
-pub returns-then-not-setup_ok : goal.returns-then-not-setup_ok
+pub returns-else-setup_ok : goal.returns-else-setup_ok
 unfolding reader_good
-returns-then-not-setup_ok c = rw (← c.setup_ok.ensures, c.if-not-setup_ok.true)
+returns-else-setup_ok c = rw (← c.setup_ok.ensures, c.if-setup_ok.false)
 
 pub tables_ok-requires : goal.tables_ok-requires
-tables_ok-requires c = (small c.args.s.setup (sym c.setup_ok.ensures ∙ c.if-not-setup_ok.false)).n
+tables_ok-requires c = (small c.args.s.setup (sym c.setup_ok.ensures ∙ c.if-setup_ok.true)).n
 
-pub returns : goal.returns
+pub returns-then-setup_ok : goal.returns-then-setup_ok
 unfolding reader_good
-returns c = rw (← c.setup_ok.ensures, c.if-not-setup_ok.false) c.tables_ok.ensures
+returns-then-setup_ok c = rw (← c.setup_ok.ensures, c.if-setup_ok.true) c.tables_ok.ensures

@@ -11,17 +11,16 @@ use Rattle.recorder.proofs.Laws.{clear_turn}
 use Rattle.recorder.proofs.clear.Goals as goal
 
 pub loop-i-init : goal.loop-i-init
-loop-i-init c = record { begun = omega arith; zero = refl }
+loop-i-init c = refl
 
 pub loop-i-preserved : goal.loop-i-preserved
 loop-i-preserved c =
     let l = c.loop-i in
-    let a = c.args in
-    record { begun = omega (arith, l.invariant.begun); zero = l.invariant.zero ∙ clear_turn a.b.now l.bits l.i a.to (search rules) (search rules) }
+    l.invariant ∙ clear_turn c.args.b.now l.bits l.i c.args.to (search rules) (search rules)
 
 pub returns : goal.returns
 returns c =
     let l = c.loop-i in
     let a = c.args in
     let past : length (take a.to a.b.now) ≤ l.i = omega (arith, length-take a.to a.b.now) in
-    sym (l.invariant.zero ∙ ap (λ p. eqb l.bits 0 && zeros p) (drop_of_length-le (take a.to a.b.now) past) ∙ and-true (eqb l.bits 0))
+    sym (l.invariant ∙ ap (λ p. eqb l.bits 0 && zeros p) (drop_of_length-le (take a.to a.b.now) past) ∙ and-true (eqb l.bits 0))

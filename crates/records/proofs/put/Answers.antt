@@ -1,37 +1,23 @@
 -- `records::put` writes a record's eight bytes at the start of a lent part. Assumes nothing.
+use Rattle.std.proofs.Common.{◌≡◌, ℕ, ◌/◌, List, drop, sym, ap, ◌∙◌}
 use native.Mathlib.Omega.{arith}
-use lib.ListN.{length-set}
-use lib.Seq.{sets-eq}
+use Rattle.std.proofs.lemmas.List.{drop-drop}
 use Rattle.model.specs.Records.{record_bytes}
 use Rattle.records.specs.Seen.{over}
 use Rattle.records.proofs.put.Goals as goal
 
-pub bounds-b-1 : goal.bounds-b-1
-bounds-b-1 c = simp length-set (omega arith)
+third : (v : ℕ) → v / 65_536 ≡ v / 256 / 256
+third v = omega arith
 
-pub bounds-b-2 : goal.bounds-b-2
-bounds-b-2 c = simp length-set (omega arith)
+fourth : (v : ℕ) → v / 16_777_216 ≡ v / 256 / 256 / 256
+fourth v = omega arith
 
-pub bounds-b-3 : goal.bounds-b-3
-bounds-b-3 c = simp length-set (omega arith)
-
-pub bounds-b-4 : goal.bounds-b-4
-bounds-b-4 c = simp length-set (omega arith)
-
-pub bounds-b-5 : goal.bounds-b-5
-bounds-b-5 c = simp length-set (omega arith)
-
-pub bounds-b-6 : goal.bounds-b-6
-bounds-b-6 c = simp length-set (omega arith)
-
-pub bounds-b-7 : goal.bounds-b-7
-bounds-b-7 c = simp length-set (omega arith)
-
-pub shape_of-b : goal.shape_of-b
-shape_of-b c = simp length-set
+-- What stands past the record, as three copies leave it.
+rest : (l : List ℕ) → drop 8 l ≡ drop 4 (drop 2 (drop 2 l))
+rest l = sym (ap (drop 4) (drop-drop 2 2 l) ∙ drop-drop 4 4 l)
 
 pub returns : goal.returns
 unfolding record_bytes over
 returns c =
-    let a = c.args in
-    sets-eq (record_bytes a.kind a.code a.value) a.b.now 0 (omega arith)
+    let v = c.args.value in
+    rw (c.copy_from_slice.ensures.after, c.copy_from_slice-2.ensures.after, c.copy_from_slice-3.ensures.after, c.to_le_bytes.ensures, c.to_le_bytes-2.ensures, c.to_le_bytes-3.ensures, third v, fourth v, rest c.args.b.now)

@@ -3,4 +3,4 @@ use Rattle.std.proofs.Common.{refl}
 use Rattle.replay.proofs.refused.Goals as goal
 
 pub returns : goal.returns
-returns c = (c.lose-after.ensures, refl)
+returns c = (c.lose.ensures, refl)

@@ -46,6 +46,6 @@ put_rest-requires c = (begun (goal.at.put_rest-requires c).After-put_contact-i).
 
 pub returns : goal.returns
 returns c =
+    let at = goal.at.returns c in
     let n = c.put_rest in
-    let p = c in
-    rw (whole (goal.at.returns p).Start) (n.ensures.0 ∙ (begun (goal.at.returns p).After-put_contact-i).ends, n.ensures.1 ∙ (begun (goal.at.returns p).After-put_contact-i).bytes)
+    rw (whole at.Start) (n.ensures.0 ∙ (begun at.After-put_contact-i).ends, n.ensures.1 ∙ (begun at.After-put_contact-i).bytes)

@@ -94,23 +94,17 @@ two : (c : After-put_number-j) → (let p = c in let k = p in
     Begun p.put_number-i.result c.put_number-j.result (number_bytes 0x35 (old-at-After-put_number-j k).x (new-at-After-put_number-j k).x) (number_bytes 0x36 (old-at-After-put_number-j k).y (new-at-After-put_number-j k).y) p.put_number-i.new.b c.put_number-j.new.b)
 two c = begins c.put_number-j.ensures.0 c.put_number-j.ensures.1 (one-at-After-put_number-j c).room
 
-pub put_number-i-requires : goal.put_number-i-requires
-put_number-i-requires c =
-    let k = c in
-    omega (arith, length-append (number_bytes 0x39 k.bits_of.result k.bits_of-2.result) ((number_bytes 0x35 (old (goal.at.put_number-i-requires k).After-bits_of-2).x (new (goal.at.put_number-i-requires k).After-bits_of-2).x) ++ (number_bytes 0x36 (old (goal.at.put_number-i-requires k).After-bits_of-2).y (new (goal.at.put_number-i-requires k).After-bits_of-2).y)), room (goal.at.put_number-i-requires k).After-bits_of-2)
-
 pub put_number-j-requires : goal.put_number-j-requires
 put_number-j-requires c =
-    let p = c in
-    let k = p in
-    omega (arith, length-append (number_bytes 0x35 (old (goal.at.put_number-j-requires k).After-bits_of-2).x (new (goal.at.put_number-j-requires k).After-bits_of-2).x) (number_bytes 0x36 (old (goal.at.put_number-j-requires k).After-bits_of-2).y (new (goal.at.put_number-j-requires k).After-bits_of-2).y), (one (goal.at.put_number-j-requires p).After-put_number-i).room)
+    let at = goal.at.put_number-j-requires c in
+    omega (arith, length-append (number_bytes 0x35 (old at.After-bits_of-2).x (new at.After-bits_of-2).x) (number_bytes 0x36 (old at.After-bits_of-2).y (new at.After-bits_of-2).y), (one at.After-put_number-i).room)
 
 pub put_number-requires : goal.put_number-requires
 put_number-requires c = (two (goal.at.put_number-requires c).After-put_number-j).room
 
 pub returns : goal.returns
 returns c =
+    let at = goal.at.returns c in
     let n = c.put_number in
-    let p = c in
-    let first = one (goal.at.returns p).After-put_number-i in
-    rw (whole (goal.at.returns p).After-bits_of-2) (n.ensures.0 ∙ (two (goal.at.returns p).After-put_number-j).ends ∙ first.ends, n.ensures.1 ∙ (two (goal.at.returns p).After-put_number-j).bytes ∙ first.bytes)
+    let first = one at.After-put_number-i in
+    rw (whole at.After-bits_of-2) (n.ensures.0 ∙ (two at.After-put_number-j).ends ∙ first.ends, n.ensures.1 ∙ (two at.After-put_number-j).bytes ∙ first.bytes)

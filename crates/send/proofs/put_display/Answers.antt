@@ -1,7 +1,5 @@
 -- `send::put_display` writes the tools, and X and Y. Assumes nothing.
 use mathlib.Core.Path.{◌∙◌}
-use native.Mathlib.Omega.{arith}
-use lib.ListN.{length-append}
 use Rattle.send.specs.Told.{tool_bytes, place_bytes}
 use Rattle.send.proofs.Parts.{Begun, begins}
 use Rattle.send.proofs.put_display.Goals.{After-put_tools-i}
@@ -10,14 +8,6 @@ use Rattle.send.proofs.put_display.Goals as goal
 begun : (c : After-put_tools-i) → (let s = c in
     Begun s.args.at c.put_tools-i.result (tool_bytes s.args.q s.args.z) (place_bytes s.args.q s.args.z) s.args.b.now c.put_tools-i.new.b)
 begun c = begins c.put_tools-i.ensures.0 c.put_tools-i.ensures.1 c.requires
-
-pub put_tools-i-requires : goal.put_tools-i-requires
-put_tools-i-requires c =
-    let s = c in
-    omega (arith, length-append (tool_bytes s.args.q s.args.z) (place_bytes s.args.q s.args.z), s.requires)
-
-pub put_place-requires : goal.put_place-requires
-put_place-requires c = (begun (goal.at.put_place-requires c).After-put_tools-i).room
 
 pub returns : goal.returns
 returns c =

@@ -37,11 +37,12 @@ put-requires c =
 
 pub returns : goal.returns
 returns c =
+    let here = (goal.at.returns c).Else-c in
     let p = c in
     let e = p in
     let a = e.args in
-    let k = change (goal.at.returns e).Else-c in
-    rw (differs (goal.at.returns e).Else-c) (
-      sym (ap (λ n. a.at + n) (eight (goal.at.returns e).Else-c)),
-      lay_put a.at (record_bytes k.kind k.code k.new) a.b.now p.put.new.b (omega (arith, room (goal.at.returns e).Else-c)) p.put.ensures,
+    let k = change here in
+    rw (differs here) (
+      sym (ap (λ n. a.at + n) (eight here)),
+      lay_put a.at (record_bytes k.kind k.code k.new) a.b.now p.put.new.b (omega (arith, room here)) p.put.ensures,
     )

@@ -64,6 +64,6 @@ put_changes-requires c = (begun (goal.at.put_changes-requires c).After-put).room
 
 pub returns : goal.returns
 returns c =
+    let at = goal.at.returns c in
     let n = c.put_changes in
-    let p = c in
-    rw (whole (goal.at.returns p).Start) (n.ensures.0 ∙ (begun (goal.at.returns p).After-put).ends, n.ensures.1 ∙ (begun (goal.at.returns p).After-put).bytes)
+    rw (whole at.Start) (n.ensures.0 ∙ (begun at.After-put).ends, n.ensures.1 ∙ (begun at.After-put).bytes)

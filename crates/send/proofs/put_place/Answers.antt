@@ -1,7 +1,5 @@
 -- `send::put_place` writes X and Y. Assumes nothing.
 use mathlib.Core.Path.{◌∙◌}
-use native.Mathlib.Omega.{arith}
-use lib.ListN.{length-append}
 use Rattle.send.specs.Sent.{told_bytes}
 use Rattle.send.proofs.Parts.{Begun, begins}
 use Rattle.send.proofs.put_place.Goals.{After-put_number-i}
@@ -10,14 +8,6 @@ use Rattle.send.proofs.put_place.Goals as goal
 begun : (c : After-put_number-i) → (let s = c in
     Begun s.args.at c.put_number-i.result (told_bytes 3 0 s.args.q.x s.args.z.x) (told_bytes 3 1 s.args.q.y s.args.z.y) s.args.b.now c.put_number-i.new.b)
 begun c = begins c.put_number-i.ensures.0 c.put_number-i.ensures.1 c.requires
-
-pub put_number-i-requires : goal.put_number-i-requires
-put_number-i-requires c =
-    let s = c in
-    omega (arith, length-append (told_bytes 3 0 s.args.q.x s.args.z.x) (told_bytes 3 1 s.args.q.y s.args.z.y), s.requires)
-
-pub put_number-requires : goal.put_number-requires
-put_number-requires c = (begun (goal.at.put_number-requires c).After-put_number-i).room
 
 pub returns : goal.returns
 returns c =

@@ -1,8 +1,6 @@
 -- `send::put_rest` writes a slot's changed pressure, major and minor. Assumes nothing.
 use mathlib.Core.Path.{◌∙◌}
 use mathlib.Core.List.{◌++◌}
-use native.Mathlib.Omega.{arith}
-use lib.ListN.{length-append}
 use Rattle.send.specs.Sent.{number_bytes}
 use Rattle.send.proofs.Parts.{Begun, begins}
 use Rattle.send.proofs.put_rest.Goals.{After-put_number-i, After-put_number-j}
@@ -21,22 +19,9 @@ two : (c : After-put_number-j) → (let p = c in
     Begun p.put_number-i.result c.put_number-j.result (number_bytes 0x30 p.args.old.major p.args.new.major) (number_bytes 0x31 p.args.old.minor p.args.new.minor) p.put_number-i.new.b c.put_number-j.new.b)
 two c = begins c.put_number-j.ensures.0 c.put_number-j.ensures.1 (one-at-After-put_number-j c).room
 
-pub put_number-i-requires : goal.put_number-i-requires
-put_number-i-requires c =
-    let s = c in
-    omega (arith, length-append (number_bytes 0x3a s.args.old.pressure s.args.new.pressure) ((number_bytes 0x30 s.args.old.major s.args.new.major) ++ (number_bytes 0x31 s.args.old.minor s.args.new.minor)), s.requires)
-
-pub put_number-j-requires : goal.put_number-j-requires
-put_number-j-requires c =
-    let p = c in
-    omega (arith, length-append (number_bytes 0x30 p.args.old.major p.args.new.major) (number_bytes 0x31 p.args.old.minor p.args.new.minor), (one (goal.at.put_number-j-requires p).After-put_number-i).room)
-
-pub put_number-requires : goal.put_number-requires
-put_number-requires c = (two (goal.at.put_number-requires c).After-put_number-j).room
-
 pub returns : goal.returns
 returns c =
+    let at = goal.at.returns c in
     let n = c.put_number in
-    let p = c in
-    let first = one (goal.at.returns p).After-put_number-i in
-    (n.ensures.0 ∙ (two (goal.at.returns p).After-put_number-j).ends ∙ first.ends, n.ensures.1 ∙ (two (goal.at.returns p).After-put_number-j).bytes ∙ first.bytes)
+    let first = one at.After-put_number-i in
+    (n.ensures.0 ∙ (two at.After-put_number-j).ends ∙ first.ends, n.ensures.1 ∙ (two at.After-put_number-j).bytes ∙ first.bytes)

@@ -3,7 +3,7 @@ use mathlib.Core.Path.{◌≡◌, ap, ap₂, ◌∙◌}
 use mathlib.Core.List.{◌++◌}
 use Prim.Native.Nat.{◌+◌, ◌≤◌}
 use native.Mathlib.Omega.{arith}
-use lib.ListN.{length, length-append}
+use lib.ListN.{length}
 use Rattle.model.specs.Records.{lay}
 use Rattle.send.specs.Sent.{told_bytes}
 use Rattle.send.specs.Told.{tool_bytes}
@@ -29,19 +29,12 @@ begun : (c : After-put_number-i) → (let o = c in
     Begun o.args.at c.put_number-i.result (told_bytes 1 o.args.q.tool o.zero_if.result 0) (told_bytes 1 o.args.z.tool o.one_if.result 1) o.args.b.now c.put_number-i.new.b)
 begun c = begins c.put_number-i.ensures.0 c.put_number-i.ensures.1 (room-at-After-put_number-i c)
 
-pub put_number-i-requires : goal.put_number-i-requires
-put_number-i-requires c =
-    let o = c in
-    omega (arith, length-append (told_bytes 1 o.args.q.tool o.zero_if.result 0) (told_bytes 1 o.args.z.tool o.one_if.result 1), room (goal.at.put_number-i-requires o).After-one_if)
-
-pub put_number-requires : goal.put_number-requires
-put_number-requires c = (begun (goal.at.put_number-requires c).After-put_number-i).room
-
 pub returns : goal.returns
 returns c =
+    let at = goal.at.returns c in
     let n = c.put_number in
     let p = c in
     let o = p in
     let a = o.args in
-    let first = begun (goal.at.returns p).After-put_number-i in
-    (n.ensures.0 ∙ first.ends ∙ ap (λ l. a.at + length l) (whole (goal.at.returns o).After-one_if), n.ensures.1 ∙ first.bytes ∙ ap (λ l. lay a.at l a.b.now) (whole (goal.at.returns o).After-one_if))
+    let first = begun at.After-put_number-i in
+    (n.ensures.0 ∙ first.ends ∙ ap (λ l. a.at + length l) (whole at.After-one_if), n.ensures.1 ∙ first.bytes ∙ ap (λ l. lay a.at l a.b.now) (whole at.After-one_if))

@@ -3,7 +3,7 @@ use mathlib.Core.Path.{◌∙◌}
 use mathlib.Core.List.{List, ◌++◌}
 use Prim.Native.Nat.{ℕ, ◌+◌, ◌≤◌}
 use native.Mathlib.Omega.{arith}
-use lib.ListN.{length, length-append}
+use lib.ListN.{length}
 use Rattle.model.specs.Records.{record_bytes}
 use Rattle.records.proofs.Over.{record_length, lay_put}
 use Rattle.send.specs.Told.{tool_bytes, place_bytes}
@@ -22,17 +22,6 @@ begun c = begins c.put_display-end.ensures.0 c.put_display-end.ensures.1 c.requi
 fits : (c : After-put_display-end) → c.put_display-end.result + 8 ≤ length c.put_display-end.new.b
 fits c = omega (arith, record_length 0 0 0, (begun c).room)
 
-pub put_display-end-requires : goal.put_display-end-requires
-put_display-end-requires c =
-    let s = c in
-    omega (arith, length-append (tool_bytes s.args.q s.args.z ++ place_bytes s.args.q s.args.z) R, s.requires)
-
-pub slice_bounds-put-count : goal.slice_bounds-put-count
-slice_bounds-put-count c = omega (arith, fits (goal.at.slice_bounds-put-count c).After-put_display-end)
-
-pub slice_bounds-put-start : goal.slice_bounds-put-start
-slice_bounds-put-start c = omega (arith, fits (goal.at.slice_bounds-put-start c).After-put_display-end)
-
 pub put-requires : goal.put-requires
 put-requires c =
     let p = c in
@@ -40,6 +29,7 @@ put-requires c =
 
 pub returns : goal.returns
 returns c =
+    let here = (goal.at.returns c).After-put_display-end in
     let n = c.put in
     let p = c in
-    lay_put p.put_display-end.result R p.put_display-end.new.b n.new.b (omega (arith, fits (goal.at.returns p).After-put_display-end)) n.ensures ∙ (begun (goal.at.returns p).After-put_display-end).bytes
+    lay_put p.put_display-end.result R p.put_display-end.new.b n.new.b (omega (arith, fits here)) n.ensures ∙ (begun here).bytes

@@ -109,8 +109,9 @@ loop-m-init c = record { bits = search rules; size = refl; room = (begun (goal.a
 
 pub put_opened-end-requires : goal.put_opened-end-requires
 put_opened-end-requires c =
+    let here = (goal.at.put_opened-end-requires c).In-loop-m in
     let i = c in
-    rw (place (goal.at.put_opened-end-requires i).In-loop-m) (below (goal.at.put_opened-end-requires i).In-loop-m, omega (arith, length-append (bytes_sent (parts (goal.at.put_opened-end-requires i).In-loop-m (count_trailing_zeros records i.loop-m.m))) (bytes_sent (of_mask records (bit_and i.loop-m.m (i.loop-m.m - 1)) (parts (goal.at.put_opened-end-requires i).In-loop-m))), more_room (goal.at.put_opened-end-requires i).In-loop-m))
+    rw (place here) (below here, omega (arith, length-append (bytes_sent (parts here (count_trailing_zeros records i.loop-m.m))) (bytes_sent (of_mask records (bit_and i.loop-m.m (i.loop-m.m - 1)) (parts here))), more_room here))
 
 pub loop-m-smaller : goal.loop-m-smaller
 loop-m-smaller c =
@@ -119,6 +120,7 @@ loop-m-smaller c =
 
 pub loop-m-preserved : goal.loop-m-preserved
 loop-m-preserved c =
+    let at = goal.at.loop-m-preserved c in
     let p = c in
     let i = p in
     let l = i.loop-m in
@@ -126,26 +128,27 @@ loop-m-preserved c =
     let last = last-changes (count_trailing_zeros records i.loop-m.m) 0 (slot_of (get_or s.args.old (count_trailing_zeros records i.loop-m.m) blank)) (slot_of (get_or s.args.new (count_trailing_zeros records i.loop-m.m) blank)) in
     record {
       bits = omega (arith, and_le_r l.m (l.m - 1), l.invariant.bits);
-      size = (opened (goal.at.loop-m-preserved p).After-put_opened-end).size ∙ l.invariant.size;
-      room = (opened (goal.at.loop-m-preserved p).After-put_opened-end).room;
-      ends = l.invariant.ends ∙ ap (λ bs. l.end + length bs) (split-bytes (goal.at.loop-m-preserved i).In-loop-m) ∙ sym (opened (goal.at.loop-m-preserved p).After-put_opened-end).ends;
+      size = (opened at.After-put_opened-end).size ∙ l.invariant.size;
+      room = (opened at.After-put_opened-end).room;
+      ends = l.invariant.ends ∙ ap (λ bs. l.end + length bs) (split-bytes at.In-loop-m) ∙ sym (opened at.After-put_opened-end).ends;
       opened =
-          l.invariant.opened ∙ ap (last_opened l.last) (split (goal.at.loop-m-preserved i).In-loop-m) ∙ last_append l.last (parts (goal.at.loop-m-preserved i).In-loop-m (count_trailing_zeros records i.loop-m.m)) (of_mask records (bit_and i.loop-m.m (i.loop-m.m - 1)) (parts (goal.at.loop-m-preserved i).In-loop-m))
-          ∙ ap (λ k. last_opened k (of_mask records (bit_and i.loop-m.m (i.loop-m.m - 1)) (parts (goal.at.loop-m-preserved i).In-loop-m))) (last ∙ sym (place (goal.at.loop-m-preserved i).In-loop-m));
-      bytes = l.invariant.bytes ∙ ap (λ bs. lay l.end bs l.b) (split-bytes (goal.at.loop-m-preserved i).In-loop-m) ∙ sym (opened (goal.at.loop-m-preserved p).After-put_opened-end).bytes;
+          l.invariant.opened ∙ ap (last_opened l.last) (split at.In-loop-m) ∙ last_append l.last (parts at.In-loop-m (count_trailing_zeros records i.loop-m.m)) (of_mask records (bit_and i.loop-m.m (i.loop-m.m - 1)) (parts at.In-loop-m))
+          ∙ ap (λ k. last_opened k (of_mask records (bit_and i.loop-m.m (i.loop-m.m - 1)) (parts at.In-loop-m))) (last ∙ sym (place at.In-loop-m));
+      bytes = l.invariant.bytes ∙ ap (λ bs. lay l.end bs l.b) (split-bytes at.In-loop-m) ∙ sym (opened at.After-put_opened-end).bytes;
     }
 
 pub returns : goal.returns
 returns c =
+    let at = goal.at.returns c in
     let l = c.loop-m in
     let s = c in
-    let q = begun (goal.at.returns c).After-put_changes-end in
+    let q = begun at.After-put_changes-end in
     let first = last-changes s.args.current.0 0 (slot_of (get_or s.args.old s.args.current.0 blank)) (slot_of (get_or s.args.new s.args.current.0 blank)) in
     let last = last_append s.args.current.0 (changes 0 (slot_of (get_or s.args.old s.args.current.0 blank)) (slot_of (get_or s.args.new s.args.current.0 blank))) (of_mask records s.args.others (opened_at s.args.old s.args.new)) ∙ ap (λ k. last_opened k (of_mask records s.args.others (opened_at s.args.old s.args.new))) first in
     record {
-      ends = omega (arith, l.invariant.ends, ap length (none_left (goal.at.returns c).After-loop-m), q.ends, ap length (whole (goal.at.returns s).Start));
-      last = sym (last ∙ l.invariant.opened ∙ ap (last_opened l.last) (none (goal.at.returns c).After-loop-m));
+      ends = omega (arith, l.invariant.ends, ap length (none_left at.After-loop-m), q.ends, ap length (whole at.Start));
+      last = sym (last ∙ l.invariant.opened ∙ ap (last_opened l.last) (none at.After-loop-m));
       bytes =
-          sym (lay_nil l.end l.b) ∙ ap (λ bs. lay l.end bs l.b) (sym (none_left (goal.at.returns c).After-loop-m)) ∙ sym l.invariant.bytes ∙ q.bytes
-          ∙ ap (λ bs. lay s.args.at bs s.args.b.now) (sym (whole (goal.at.returns s).Start));
+          sym (lay_nil l.end l.b) ∙ ap (λ bs. lay l.end bs l.b) (sym (none_left at.After-loop-m)) ∙ sym l.invariant.bytes ∙ q.bytes
+          ∙ ap (λ bs. lay s.args.at bs s.args.b.now) (sym (whole at.Start));
     }

@@ -32,56 +32,59 @@ table_is c = sym c.table_good.ensures ∙ c.if-not-table_good.false
 
 pub returns-then-not-setup_ok : goal.returns-then-not-setup_ok
 returns-then-not-setup_ok c =
+    let here = (goal.at.returns-then-not-setup_ok c).Start in
     let k = c in
     let s = k in
     let e : setup_good base (setup_of s.args.s.setup) ≡ false = sym k.setup_ok.ensures ∙ c.if-not-setup_ok.true in
-    sym (good_by s.args.s (full (goal.at.returns-then-not-setup_ok s).Start) false (table (goal.at.returns-then-not-setup_ok s).Start) (ltb s.args.s.current.0 s.args.s.setup.n) (ltb s.args.s.counter id_count) (pointing_good s.args.s) e refl refl refl refl)
-
-pub table_good-requires : goal.table_good-requires
-table_good-requires c = (small c.args.s.setup (setup-is (goal.at.table_good-requires c).Else-not-setup_ok)).n
+    sym (good_by s.args.s (full here) false (table here) (ltb s.args.s.current.0 s.args.s.setup.n) (ltb s.args.s.counter id_count) (pointing_good s.args.s) e refl refl refl refl)
 
 pub returns-then-not-table_good : goal.returns-then-not-table_good
 returns-then-not-table_good c =
+    let at = goal.at.returns-then-not-table_good c in
     let k = c in
     let e = k in
     let s = e in
-    let z : table (goal.at.returns-then-not-table_good s).Start ≡ false = sym k.table_good.ensures ∙ c.if-not-table_good.true in
-    sym (good_by s.args.s (full (goal.at.returns-then-not-table_good s).Start) true false (ltb s.args.s.current.0 s.args.s.setup.n) (ltb s.args.s.counter id_count) (pointing_good s.args.s) (setup-is (goal.at.returns-then-not-table_good e).Else-not-setup_ok) z refl refl refl)
+    let z : table at.Start ≡ false = sym k.table_good.ensures ∙ c.if-not-table_good.true in
+    sym (good_by s.args.s (full at.Start) true false (ltb s.args.s.current.0 s.args.s.setup.n) (ltb s.args.s.counter id_count) (pointing_good s.args.s) (setup-is at.Else-not-setup_ok) z refl refl refl)
 
-pub returns-then-setup-current : goal.returns-then-setup-current
-returns-then-setup-current c =
+pub returns-then-setup-s : goal.returns-then-setup-s
+returns-then-setup-s c =
+    let at = goal.at.returns-then-setup-s c in
     let r = c in
     let e = r in
     let s = e in
-    let past = le-ltb s.args.s.current.0 s.args.s.setup.n c.if-setup-current.true in
-    sym (good_by s.args.s (full (goal.at.returns-then-setup-current s).Start) true true false (ltb s.args.s.counter id_count) (pointing_good s.args.s) (setup-is (goal.at.returns-then-setup-current e).Else-not-setup_ok) (table_is (goal.at.returns-then-setup-current r).Else-not-table_good) past refl refl)
+    let past = le-ltb s.args.s.current.0 s.args.s.setup.n c.if-setup-s.true in
+    sym (good_by s.args.s (full at.Start) true true false (ltb s.args.s.counter id_count) (pointing_good s.args.s) (setup-is at.Else-not-setup_ok) (table_is at.Else-not-table_good) past refl refl)
 
 pub returns-then-s-ge-COUNT : goal.returns-then-s-ge-COUNT
 returns-then-s-ge-COUNT c =
+    let at = goal.at.returns-then-s-ge-COUNT c in
     let i = c in
     let r = i in
     let e = r in
     let s = e in
-    let inside = lt-ltb s.args.s.current.0 s.args.s.setup.n i.if-setup-current.false in
+    let inside = lt-ltb s.args.s.current.0 s.args.s.setup.n i.if-setup-s.false in
     let much = le-ltb s.args.s.counter id_count c.if-s-ge-COUNT.true in
-    sym (good_by s.args.s (full (goal.at.returns-then-s-ge-COUNT s).Start) true true true false (pointing_good s.args.s) (setup-is (goal.at.returns-then-s-ge-COUNT e).Else-not-setup_ok) (table_is (goal.at.returns-then-s-ge-COUNT r).Else-not-table_good) inside much refl)
+    sym (good_by s.args.s (full at.Start) true true true false (pointing_good s.args.s) (setup-is at.Else-not-setup_ok) (table_is at.Else-not-table_good) inside much refl)
 
 pub pointing_ok-requires : goal.pointing_ok-requires
 pointing_ok-requires c =
+    let at = goal.at.pointing_ok-requires c in
     let j = c in
     let i = j in
     let r = i in
     let e = r in
     let s = e in
-    record { few = (small s.args.s.setup (setup-is (goal.at.pointing_ok-requires e).Else-not-setup_ok)).n; rest = good-rest s.args.s.setup s.args.s.table (full (goal.at.pointing_ok-requires s).Start) (and_left _ (ids_differ (table_of s.args.s.table)) (table_is (goal.at.pointing_ok-requires r).Else-not-table_good)) }
+    record { few = (small s.args.s.setup (setup-is at.Else-not-setup_ok)).n; rest = good-rest s.args.s.setup s.args.s.table (full at.Start) (and_left _ (ids_differ (table_of s.args.s.table)) (table_is at.Else-not-table_good)) }
 
 pub returns : goal.returns
 returns c =
+    let at = goal.at.returns c in
     let j = c in
     let i = j in
     let r = i in
     let e = r in
     let s = e in
-    let inside = lt-ltb s.args.s.current.0 s.args.s.setup.n i.if-setup-current.false in
+    let inside = lt-ltb s.args.s.current.0 s.args.s.setup.n i.if-setup-s.false in
     let few = lt-ltb s.args.s.counter id_count j.if-s-ge-COUNT.false in
-    sym (good_by s.args.s (full (goal.at.returns s).Start) true true true true c.pointing_ok.result (setup-is (goal.at.returns e).Else-not-setup_ok) (table_is (goal.at.returns r).Else-not-table_good) inside few (sym c.pointing_ok.ensures))
+    sym (good_by s.args.s (full at.Start) true true true true c.pointing_ok.result (setup-is at.Else-not-setup_ok) (table_is at.Else-not-table_good) inside few (sym c.pointing_ok.ensures))

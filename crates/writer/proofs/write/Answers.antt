@@ -21,7 +21,7 @@ use Rattle.tally.proofs.Told.{others-told, events-told}
 use Rattle.writer.specs.Seen.{seen, written_from, with_last, taken_by}
 use Rattle.writer.proofs.States.{good-setup, good-size, good-slots, good-current, good-counter}
 use Rattle.writer.proofs.Outcome.{answer_by, buffer_by, refusal_is}
-use Rattle.writer.proofs.Accepted.{GoodFrame, PlannedFrame, Known, moving, stays-told, refused_by, fits-touch, fits-slots, fits_end, same_size, sent}
+use Rattle.writer.proofs.Accepted.{GoodFrame, PlannedFrame, Known, moving, refused_by, fits-touch, fits-slots, fits_end, sent}
 use Rattle.writer.proofs.Quiet.{handed_back, still}
 use borrow.Author.Rules.{rules}
 use Rattle.writer.proofs.write.Goals.{After-emulated, After-first_loud-from, After-move_on-moved, After-plan_frame-p, Else-frame-setup, Else-not-has_room, Else-not-p, Else-not-state_ok, Start}
@@ -198,10 +198,11 @@ first_loud-from-requires c =
 
 pub returns-then-from-setup : goal.returns-then-from-setup
 returns-then-from-setup c =
+    let at = goal.at.returns-then-from-setup c in
     let q = c in
     let s = q in
     let all_quiet : (i : ℕ) → i < s.args.state.setup.n → QuietAt s.args.frame.now s.args.state.table i = λ i h. q.first_loud-from.ensures.quiet i (omega arith) (omega (arith, h, c.if-from-setup.true)) in
-    let r = still s.args.state s.args.frame.now (good-state (goal.at.returns-then-from-setup q).After-first_loud-from) (given (goal.at.returns-then-from-setup q).After-first_loud-from) (held-full (goal.at.returns-then-from-setup s).Start) all_quiet s.args.at s.args.buf.now in
+    let r = still s.args.state s.args.frame.now (good-state at.After-first_loud-from) (given at.After-first_loud-from) (held-full at.Start) all_quiet s.args.at s.args.buf.now in
     (c.unchanged.ensures ∙ r.0, r.1)
 
 pub plan_frame-p-requires : goal.plan_frame-p-requires
@@ -211,12 +212,13 @@ plan_frame-p-requires c =
 
 pub returns-then-not-p : goal.returns-then-not-p
 returns-then-not-p c =
+    let at = goal.at.returns-then-not-p c in
     let p = c in
     let s = p in
     let buf = s.args.buf.now in
-    let g = good-state (goal.at.returns-then-not-p p).After-first_loud-from in
-    let z = frame-whole (goal.at.returns-then-not-p p).Else-frame-setup in
-    let v : (values_good (panel_seen s.args.state.setup) s.args.frame.now) ≡ false = sym (values-are (goal.at.returns-then-not-p p).After-plan_frame-p) ∙ not-true p.plan_frame-p.result.good c.if-not-p.true in
+    let g = good-state at.After-first_loud-from in
+    let z = frame-whole at.Else-frame-setup in
+    let v : (values_good (panel_seen s.args.state.setup) s.args.frame.now) ≡ false = sym (values-are at.After-plan_frame-p) ∙ not-true p.plan_frame-p.result.good c.if-not-p.true in
     let answer = answer_by base (seen s.args.state) s.args.frame.now s.args.at buf true true false (room_for (pointer_need base (seen s.args.state) s.args.frame.now) s.args.at (length s.args.buf.now)) g z v refl in (
       c.refused-then-not-p.ensures ∙ refusal_is C.value s.args.state (pointer_need base (seen s.args.state) s.args.frame.now) ∙ ap written_from (sym answer),
       sym (buffer_by base (seen s.args.state) s.args.frame.now s.args.at buf true true false (room_for (pointer_need base (seen s.args.state) s.args.frame.now) s.args.at (length s.args.buf.now)) g z v refl),
@@ -236,13 +238,9 @@ without_current-others-requires c =
 
 pub event_count-requires : goal.event_count-requires
 event_count-requires c =
+    let here = (goal.at.event_count-requires c).Else-not-p in
     let d = c in
-    omega (arith, (plans (goal.at.event_count-requires d).Else-not-p).tells.before.numbers, good-size d.args.state (good (goal.at.event_count-requires d).Else-not-p).state)
-
-pub emulated-requires : goal.emulated-requires
-emulated-requires c =
-    let m = c in
-    stays-told (frame-planned (goal.at.emulated-requires m).Else-not-p) m.move_on-moved.result (moves (goal.at.emulated-requires m).After-move_on-moved)
+    omega (arith, (plans here).tells.before.numbers, good-size d.args.state (good here).state)
 
 pub returns-then-not-has_room : goal.returns-then-not-has_room
 returns-then-not-has_room c =
@@ -254,56 +252,50 @@ returns-then-not-has_room c =
 
 pub returns-then-events-eq0 : goal.returns-then-events-eq0
 returns-then-events-eq0 c =
+    let at = goal.at.returns-then-events-eq0 c in
     let e = c in
     let t = e in
-    let r = handed_back (known (goal.at.returns-then-events-eq0 t).After-emulated) c.if-events-eq0.true t.args.at t.args.buf.now (roomy (goal.at.returns-then-events-eq0 e).Else-not-has_room) in
+    let r = handed_back (known at.After-emulated) c.if-events-eq0.true t.args.at t.args.buf.now (roomy at.Else-not-has_room) in
     (c.unchanged-then-events-eq0.ensures ∙ r.0, r.1)
 
 pub send_touch-start-requires : goal.send_touch-start-requires
 send_touch-start-requires c =
+    let at = goal.at.send_touch-start-requires c in
     let n = c in
     let t = n in
-    fits-touch (known (goal.at.send_touch-start-requires t).After-emulated) t.args.at t.args.buf.now (roomy (goal.at.send_touch-start-requires n).Else-not-has_room) n.if-events-eq0.false
+    fits-touch (known at.After-emulated) t.args.at t.args.buf.now (roomy at.Else-not-has_room) n.if-events-eq0.false
 
 pub send_slots-sent-requires : goal.send_slots-sent-requires
 send_slots-sent-requires c =
+    let at = goal.at.send_slots-sent-requires c in
     let o = c in
     let n = o in
     let t = n in
     let touch = o.send_touch-start in (
-      good-current t.args.state (good (goal.at.send_slots-sent-requires t).Else-not-p).state,
-      fits-slots (known (goal.at.send_slots-sent-requires t).After-emulated) t.args.at t.args.buf.now (roomy (goal.at.send_slots-sent-requires n).Else-not-has_room) n.if-events-eq0.false touch.result touch.new.b touch.ensures.0 touch.ensures.1,
+      good-current t.args.state (good at.Else-not-p).state,
+      fits-slots (known at.After-emulated) t.args.at t.args.buf.now (roomy at.Else-not-has_room) n.if-events-eq0.false touch.result touch.new.b touch.ensures.0 touch.ensures.1,
     )
 
 pub send_end-requires : goal.send_end-requires
 send_end-requires c =
+    let at = goal.at.send_end-requires c in
     let l = c in
     let o = l in
     let n = o in
     let t = n in
     let touch = o.send_touch-start in
-    fits_end (known (goal.at.send_end-requires t).After-emulated) t.args.at t.args.buf.now (roomy (goal.at.send_end-requires n).Else-not-has_room) n.if-events-eq0.false touch.result touch.new.b touch.ensures.0 touch.ensures.1
+    fits_end (known at.After-emulated) t.args.at t.args.buf.now (roomy at.Else-not-has_room) n.if-events-eq0.false touch.result touch.new.b touch.ensures.0 touch.ensures.1
     l.send_slots-sent.result l.send_slots-sent.new.b l.send_slots-sent.ensures
-
-pub shape_of-buf : goal.shape_of-buf
-shape_of-buf c =
-    let e = c in
-    let l = e in
-    let o = l in
-    let n = o in
-    let t = n in
-    let touch = o.send_touch-start in
-    same_size (known (goal.at.shape_of-buf t).After-emulated) t.args.at t.args.buf.now (roomy (goal.at.shape_of-buf n).Else-not-has_room) n.if-events-eq0.false touch.result touch.new.b touch.ensures.0 touch.ensures.1
-    l.send_slots-sent.result l.send_slots-sent.new.b l.send_slots-sent.ensures e.send_end.new.b e.send_end.ensures
 
 pub returns : goal.returns
 returns c =
+    let at = goal.at.returns c in
     let e = c in
     let l = e in
     let o = l in
     let n = o in
     let t = n in
     let touch = o.send_touch-start in
-    let r = sent (known (goal.at.returns t).After-emulated) t.args.at t.args.buf.now (roomy (goal.at.returns n).Else-not-has_room) n.if-events-eq0.false touch.result touch.new.b touch.ensures.0 touch.ensures.1
+    let r = sent (known at.After-emulated) t.args.at t.args.buf.now (roomy at.Else-not-has_room) n.if-events-eq0.false touch.result touch.new.b touch.ensures.0 touch.ensures.1
     l.send_slots-sent.result l.send_slots-sent.new.b l.send_slots-sent.ensures e.send_end.new.b e.send_end.ensures in
-    (c.taken.ensures ∙ ap (λ w. taken_by t.plan_frame-p.result.table (moved (goal.at.returns t).After-emulated) w (t.event_count.result + t.emulated.result) t.plan_frame-p.result.changes.slots) (c.with.ensures ∙ ap (λ o. with_last o l.send_slots-sent.result.last) t.own_of-own.ensures) ∙ r.0, r.1)
+    (c.taken.ensures ∙ ap (λ w. taken_by t.plan_frame-p.result.table (moved at.After-emulated) w (t.event_count.result + t.emulated.result) t.plan_frame-p.result.changes.slots) (c.with.ensures ∙ ap (λ o. with_last o l.send_slots-sent.result.last) t.own_of-own.ensures) ∙ r.0, r.1)

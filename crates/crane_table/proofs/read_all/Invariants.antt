@@ -1,5 +1,0 @@
--- `crane_table::read_all` ends: the turns fall. Assumes nothing.
-use Rattle.crane_table.proofs.read_all.Given as goal
-
-abbrev pub decreases-loop-turns : goal.decreases-loop-turns
-decreases-loop-turns l = l.turns

@@ -1,5 +1,0 @@
--- `panel::unused_table` is a table of unused records. Assumes nothing.
-use Rattle.panel.proofs.unused_table.Goals as goal
-
-pub returns : goal.returns
-returns c = rw c.unused-u.ensures

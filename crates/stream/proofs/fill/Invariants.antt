@@ -1,9 +1,0 @@
--- The loop has put `done` bytes at the buffer's start.
-use Rattle.std.proofs.Common.{◌-◌, ◌≤◌, length}
-use Rattle.stream.proofs.fill.Given as goal
-
-abbrev pub invariant-loop-done : goal.invariant-loop-done
-invariant-loop-done l = l.done ≤ length l.buf
-
-abbrev pub decreases-loop-done : goal.decreases-loop-done
-decreases-loop-done l = length l.initial.buf - l.done

@@ -1,0 +1,2 @@
+-- What the promises of input cite.
+pub mod Left

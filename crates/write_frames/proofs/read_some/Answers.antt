@@ -1,6 +1,0 @@
--- `write_frames::read_some` lends no byte past those lent to it. Assumes nothing.
-use Rattle.std.proofs.Common.{sym, length-take-le, rules}
-use Rattle.write_frames.proofs.read_some.Goals as goal
-
-pub slice_bounds-end-end-then-f-eq0 : goal.slice_bounds-end-end-then-f-eq0
-slice_bounds-end-end-then-f-eq0 c = sym (length-take-le _ _ (search rules))
