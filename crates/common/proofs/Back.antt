@@ -1,13 +1,13 @@
 -- What is seen of a verdict or a mode and held again is the same, whatever it is; and what is held is seen again. Cited by the reader, the writer and link. Assumes nothing.
 use mathlib.Core.Path.{◌≡◌, refl, ap}
+use Rattle.std.specs.Prelude.{ℕ, Option, Some, None}
 use Rattle.model.specs.Reader as R
 use Rattle.model.specs.Calls as C
 use Rattle.common.specs.declared.Verdict.{Verdict}
 use Rattle.common.specs.declared.Verdict.TheVariants as W
 use Rattle.common.specs.declared.Mode.{Mode}
 use Rattle.common.specs.declared.Mode.TheVariants.{Following, Dropped, Stale}
-use Rattle.common.specs.declared.FirstSkipped.{FirstSkipped}
-use Rattle.common.specs.declared.FirstSkipped.TheVariants.{None, Event}
+use Rattle.common.specs.declared.Counts.{Counts}
 use Rattle.common.specs.Seen.{verdict_of, verdict_from, verdict_number, mode_of, mode_from, skipped_of, skipped_from, counts_of, counts_from}
 
 pub verdict_back : (v : Verdict) → verdict_from (verdict_of v) ≡ v
@@ -29,9 +29,9 @@ mode_back Following = refl
 mode_back Dropped = refl
 mode_back Stale = refl
 
-pub skipped_back : (f : FirstSkipped) → skipped_from (skipped_of f) ≡ f
+pub skipped_back : (f : Option (ℕ × ℕ)) → skipped_from (skipped_of f) ≡ f
 skipped_back None = refl
-skipped_back (Event t c) = refl
+skipped_back (Some e) = refl
 
 -- ---- held and seen again
 
@@ -65,3 +65,7 @@ skipped_seen (R.event t c) = refl
 -- What is told of a run is the same, once it is held.
 pub counts-seen : (a : R.Counts) → counts_of (counts_from a) ≡ a
 counts-seen a = rw (skipped_seen a.first)
+
+-- Counts by default are those of no run.
+pub none_counted : (a : Counts) → (a.shown ≡ 0) × ((a.types ≡ 0) × ((a.codes ≡ 0) × ((a.bad ≡ 0) × ((a.ignored ≡ 0) × (a.first ≡ None))))) → a ≡ counts_from R.nothing
+none_counted a z = λ i. record { shown = z.0 i; types = z.1.0 i; codes = z.1.1.0 i; bad = z.1.1.1.0 i; ignored = z.1.1.1.1.0 i; first = z.1.1.1.1.1 i }

@@ -1,4 +1,4 @@
--- The first record skipped, by its number. Cited by the proofs of `first_of`, `earliest` and `follow`, the product's and the cranes'. Assumes nothing.
+-- The first record skipped, by its number. Cited by the proofs of `first_skipped` and of `follow`, the product's and the cranes'. Assumes nothing.
 use mathlib.Core.Path.{◌≡◌, refl, sym, ap₂, ◌∙◌, subst}
 use mathlib.Core.List.{List}
 use Prim.Native.Nat.{ℕ, zero, suc, ◌+◌, ◌*◌, ◌≤◌}

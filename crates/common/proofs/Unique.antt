@@ -11,6 +11,8 @@ use Rattle.common.proofs.id_ok.Reads as id-ok
 use Rattle.common.proofs.between.Reads as between
 use Rattle.common.proofs.Verdict.number.Reads as number
 use Rattle.common.proofs.last_mode.Reads as last-mode
+use Rattle.common.proofs.first_skipped.Reads as first-skipped
+use Rattle.common.proofs.earliest.Reads as earliest
 
 pub same_one : OneAnswer same.Learnt
 same_one κs a r q s t e g = e ∙ sym g
@@ -36,3 +38,9 @@ same-mode m q e = sym (mode_back m) ∙ ap mode_from e ∙ mode_back q
 
 pub last-mode_one : OneAnswer last-mode.Learnt
 last-mode_one κs a r q s t e g = same-mode _ _ (e ∙ sym g)
+
+pub first-skipped_one : OneAnswer first-skipped.Learnt
+first-skipped_one κs a r q s t e g = e ∙ sym g
+
+pub earliest_one : OneAnswer earliest.Learnt
+earliest_one κs a r q s t e g = e ∙ sym g

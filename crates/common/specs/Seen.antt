@@ -1,13 +1,11 @@
 -- The code's numbers, verdicts, modes and counts as the model's, and back. The calls' contracts go through it. Assumes nothing.
-use Rattle.std.specs.Prelude.{ℕ, ℤ, pos, negsuc}
+use Rattle.std.specs.Prelude.{ℕ, ℤ, pos, negsuc, Option, Some, None}
 use Rattle.model.specs.Reader as R
 use Rattle.model.specs.Calls as C
 use Rattle.common.specs.declared.Verdict.{Verdict}
 use Rattle.common.specs.declared.Verdict.TheVariants as W
 use Rattle.common.specs.declared.Mode.{Mode}
 use Rattle.common.specs.declared.Mode.TheVariants.{Following, Dropped, Stale}
-use Rattle.common.specs.declared.FirstSkipped.{FirstSkipped}
-use Rattle.common.specs.declared.FirstSkipped.TheVariants.{None, Event}
 use Rattle.common.specs.declared.Counts.{Counts}
 
 -- ---- numbers
@@ -67,15 +65,15 @@ mode_from R.following = Following
 mode_from R.dropped = Dropped
 mode_from R.stale = Stale
 
--- The first event skipped.
-abbrev pub skipped_of : FirstSkipped → R.Skipped
+-- The first event skipped, by its type and code.
+abbrev pub skipped_of : Option (ℕ × ℕ) → R.Skipped
 skipped_of None = R.none
-skipped_of (Event t c) = R.event t c
+skipped_of (Some e) = R.event e.0 e.1
 
 -- And back.
-abbrev pub skipped_from : R.Skipped → FirstSkipped
+abbrev pub skipped_from : R.Skipped → Option (ℕ × ℕ)
 skipped_from R.none = None
-skipped_from (R.event t c) = Event t c
+skipped_from (R.event t c) = Some (t, c)
 
 -- The five counts and the first event skipped.
 abbrev pub counts_of : Counts → R.Counts

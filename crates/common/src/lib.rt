@@ -9,8 +9,9 @@ ghost use Rattle.model.specs.Panel.{id_field};
 ghost use Rattle.model.specs.Table.{fits};
 ghost use Rattle.model.specs.Records.{events_from};
 ghost use Rattle.records.specs.Seen.{event_of};
-ghost use Rattle.common.specs.Seen.{natural, verdict_number, mode_of};
+ghost use Rattle.common.specs.Seen.{natural, verdict_number, mode_of, skipped_from};
 ghost use Rattle.common.specs.Lost.{heard, on_lost, last_mode as mode_after};
+ghost use Rattle.common.specs.Runs.{FirstWithin, first_at, first_after};
 
 // A slot number and a tracking id are kinds of number that must not be mixable: a lifted id taken for a slot would move another finger.
 #[derive(Clone, Copy)]
@@ -93,22 +94,16 @@ pub enum Mode {
     Stale,
 }
 
-// The first event that a run skipped, by its type and code.
-#[derive(Clone, Copy)]
-pub enum FirstSkipped {
-    None,
-    Event(u16, u16),
-}
-
 // A count is as wide as a slice's length, so it fits whatever comes. Skipped events are counted by what is unknown of them.
-#[derive(Clone, Copy)]
+// The first that a run skipped stands by its type and code.
+#[derive(Clone, Copy, Default)]
 pub struct Counts {
     pub shown: usize,
     pub types: usize,
     pub codes: usize,
     pub bad: usize,
     pub ignored: usize,
-    pub first: FirstSkipped,
+    pub first: Option<(u16, u16)>,
 }
 
 fn lost_step(mode: Mode, e: records::Event) -> Mode
@@ -135,4 +130,24 @@ pub fn last_mode(m: Mode, bytes: &[u8], k: usize) -> Mode
         mode = lost_step(mode, records::record_at(bytes, 8 * i));
     }
     mode
+}
+
+// The first record skipped, where `skipped` records were and record `first` is the first of them.
+pub fn first_skipped(bytes: &[u8], skipped: usize, first: usize) -> Option<(u16, u16)>
+    requires { FirstWithin skipped first (length bytes.now) }
+    ensures { result ≡ skipped_from (first_at bytes.now skipped first) }
+{
+    if skipped == 0 {
+        return None;
+    }
+    let e = records::record_at(bytes, 8 * first);
+    Some((e.kind, e.code))
+}
+
+// The number of the first record skipped, where record k is skipped too. A number and no event: what an event has would be kept in memory beside the
+// loop's other numbers.
+pub fn earliest(skipped: usize, first: usize, k: usize) -> usize
+    ensures { result ≡ first_after skipped first k }
+{
+    if 0 < skipped { first } else { k }
 }

@@ -5,13 +5,13 @@ ghost use Rattle.std.specs.Prelude.{◌≡◌, true, ◌<◌, ◌≤◌, ◌+◌
 ghost use Rattle.model.specs.Panel.{crane, setup_good};
 ghost use Rattle.model.specs.Records.{events_from, events_of};
 ghost use Rattle.model.specs.Reader.{following, nothing};
-ghost use Rattle.common.specs.Seen.{mode_of, skipped_of, counts_of, counts_from};
+ghost use Rattle.common.specs.Seen.{mode_of, counts_of, counts_from};
 ghost use Rattle.crane_panel.specs.Seen.{setup_of, panel_seen, unused_all, SameFrom};
 ghost use Rattle.crane_follow.specs.Seen.{reader_of};
-ghost use Rattle.common.specs.Runs.{onward, counted as counts_so_far, FirstWithin, first_at, first_after};
+ghost use Rattle.common.specs.Runs.{onward, counted as counts_so_far, FirstWithin, first_at};
 ghost use Rattle.crane_follow.specs.Runs.{ended_from, lost_at};
 
-use common::{Counts, FirstSkipped, Mode, SlotNumber};
+use common::{Counts, Mode, SlotNumber};
 use crane_acts::Act;
 use crane_panel::{RECORDS, Setup, Slot};
 
@@ -48,25 +48,6 @@ pub fn lost(
     }
 }
 
-// The first record skipped, where `skipped` records were and record `first` is the first of them.
-fn first_of(bytes: &[u8], skipped: usize, first: usize) -> FirstSkipped
-    requires { FirstWithin skipped first (length bytes.now) }
-    ensures { skipped_of result ≡ first_at bytes.now skipped first }
-{
-    if skipped == 0 {
-        return FirstSkipped::None;
-    }
-    let e = records::record_at(bytes, 8 * first);
-    FirstSkipped::Event(e.kind, e.code)
-}
-
-// The number of the first record skipped, where record k is skipped too. A number and no event: what an event has would be kept in memory beside the loop's other numbers.
-fn earliest(skipped: usize, first: usize, k: usize) -> usize
-    ensures { result ≡ first_after skipped first k }
-{
-    if 0 < skipped { first } else { k }
-}
-
 fn counted(bytes: &[u8], shown: usize, types: usize, codes: usize, bad: usize, at: usize) -> Counts
     requires { (types + codes < 2 ^ 64) × FirstWithin (types + codes) at (length bytes.now) }
     ensures { result ≡ counts_from (counts_so_far shown types codes bad (first_at bytes.now (types + codes) at)) }
@@ -77,7 +58,7 @@ fn counted(bytes: &[u8], shown: usize, types: usize, codes: usize, bad: usize, a
         codes,
         bad,
         ignored: 0,
-        first: first_of(bytes, types + codes, at),
+        first: common::first_skipped(bytes, types + codes, at),
     }
 }
 
@@ -105,11 +86,11 @@ pub fn follow(
     for k in 0..count {
         match crane_acts::act_of(setup, records::record_at(bytes, 8 * k)) {
             Act::UnknownType => {
-                first = earliest(types + codes, first, k);
+                first = common::earliest(types + codes, first, k);
                 types += 1;
             }
             Act::UnknownCode => {
-                first = earliest(types + codes, first, k);
+                first = common::earliest(types + codes, first, k);
                 codes += 1;
             }
             Act::Bad => {

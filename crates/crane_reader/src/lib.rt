@@ -4,16 +4,16 @@
 ghost use Rattle.std.specs.Prelude.{◌≡◌, true, [], ◌<◌, ◌≤◌, ◌*◌, length, get_or};
 ghost use Rattle.model.specs.Panel.{crane, crane_per_slot, crane_records};
 ghost use Rattle.model.specs.Records.{events_of};
-ghost use Rattle.model.specs.Reader.{following, nothing, run as run_over};
+ghost use Rattle.model.specs.Reader.{following, run as run_over};
 ghost use Rattle.model.specs.States.{settled, reader_good, good_reader};
 ghost use Rattle.model.specs.Calls.{fresh_reader_call, run_call, step_call, is_stale as stale_mode, load_call, ask_call, asked_in};
-ghost use Rattle.common.specs.Seen.{mode_of, counts_from};
+ghost use Rattle.common.specs.Seen.{mode_of};
 ghost use Rattle.crane_panel.specs.Seen.{slot_of, table_of, setup_of, panel_seen, SameFrom};
 ghost use Rattle.records.specs.Seen.{event_of};
 ghost use Rattle.crane_reader.specs.States.{seen, given, no_state, fresh_from, ran_from, answered, accepted};
 ghost use Rattle.crane_reader.specs.Seen.{loaded_from, asked_from, AnswersAs, refused_run, load_taken};
 
-use common::{Counts, FirstSkipped, Mode, SlotNumber, TrackingId, Verdict};
+use common::{Counts, Mode, SlotNumber, TrackingId, Verdict};
 use crane_follow::Ended;
 use crane_panel::{RECORDS, Setup, Slot};
 
@@ -145,26 +145,13 @@ pub fn state_ok(s: ReaderState) -> bool
     crane_panel::setup_ok(s.setup) && tables_ok(s)
 }
 
-fn none() -> Counts
-    ensures { result ≡ counts_from nothing }
-{
-    Counts {
-        shown: 0,
-        types: 0,
-        codes: 0,
-        bad: 0,
-        ignored: 0,
-        first: FirstSkipped::None,
-    }
-}
-
 fn run_refused(state: ReaderState, verdict: Verdict) -> RunAnswer
     ensures { result ≡ refused_run verdict state }
 {
     RunAnswer {
         verdict,
         state,
-        counts: none(),
+        counts: Counts::default(),
     }
 }
 
@@ -203,11 +190,11 @@ fn run_accepted(state: ReaderState, bytes: &[u8]) -> RunAnswer
         ),
         Mode::Dropped => ran(
             setup,
-            crane_follow::lost(shown, current, Mode::Dropped, bytes, 0, none()),
+            crane_follow::lost(shown, current, Mode::Dropped, bytes, 0, Counts::default()),
         ),
         Mode::Stale => ran(
             setup,
-            crane_follow::lost(shown, current, Mode::Stale, bytes, 0, none()),
+            crane_follow::lost(shown, current, Mode::Stale, bytes, 0, Counts::default()),
         ),
     }
 }

@@ -1,5 +1,5 @@
 // A panel's states and answers as runs of numbers, in the order that the script's lines have them, each number after a blank.
-use common::{Counts, FirstSkipped};
+use common::Counts;
 use panel::Setup;
 use pointer::Pointer;
 use reader::{ReaderState, SlotAnswer};
@@ -36,8 +36,8 @@ pub fn counts(out: &mut Out, c: Counts) {
     say!(out, " {} {} {}", c.shown, c.types, c.codes);
     say!(out, " {} {}", c.bad, c.ignored);
     match c.first {
-        FirstSkipped::None => say!(out, " none"),
-        FirstSkipped::Event(kind, code) => say!(out, " {kind} {code}"),
+        None => say!(out, " none"),
+        Some((kind, code)) => say!(out, " {kind} {code}"),
     }
 }
 

@@ -1,7 +1,7 @@
 // The calls of the shift recorder (K2): a block made, a recording's next blocks laid into a buffer of marks, and a piece read as a block.
 use crate::say_buffer;
 use drive_lines::values;
-use recorder::BlockRead;
+use recorder::BlockRefusal;
 use stream::{Out, say};
 
 // Where a line has a block's number, and the position and the size of a buffer. The bytes come behind them, or at once behind the number.
@@ -33,10 +33,10 @@ pub fn lay(out: &mut Out, ns: &[u64]) {
 pub fn read(out: &mut Out, ns: &[u64]) {
     let piece = values::bytes_of(ns, NUMBER + 1);
     match recorder::read_block(piece.as_slice(), values::natural(ns, NUMBER)) {
-        BlockRead::Events { at, count } => say!(out, "0 {at} {count}"),
-        BlockRead::WrongCheck => say!(out, "1"),
-        BlockRead::WrongNumber => say!(out, "2"),
-        BlockRead::CountOver => say!(out, "3"),
-        BlockRead::NotZero => say!(out, "4"),
+        Ok(run) => say!(out, "0 {} {}", run.at, run.count),
+        Err(BlockRefusal::WrongCheck) => say!(out, "1"),
+        Err(BlockRefusal::WrongNumber) => say!(out, "2"),
+        Err(BlockRefusal::CountOver) => say!(out, "3"),
+        Err(BlockRefusal::NotZero) => say!(out, "4"),
     }
 }

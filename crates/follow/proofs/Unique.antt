@@ -2,15 +2,11 @@
 use mathlib.Core.Path.{sym, ◌∙◌}
 use Rattle.model.specs.Unique.{OneAnswer}
 use Rattle.follow.proofs.lost.Reads as lost
-use Rattle.follow.proofs.earliest.Reads as earliest
 use Rattle.follow.proofs.counted.Reads as counted
 use Rattle.follow.proofs.follow.Reads as follow
 
 pub lost_one : OneAnswer lost.Learnt
 lost_one κs a r q s t e g = e ∙ sym g
-
-pub earliest_one : OneAnswer earliest.Learnt
-earliest_one κs a r q s t e g = e ∙ sym g
 
 pub counted_one : OneAnswer counted.Learnt
 counted_one κs a r q s t e g = e ∙ sym g

@@ -5,14 +5,14 @@ ghost use Rattle.std.specs.Prelude.{◌≡◌, true, ◌<◌, ◌≤◌, ◌+◌
 ghost use Rattle.model.specs.Panel.{base, setup_good};
 ghost use Rattle.model.specs.Records.{events_of};
 ghost use Rattle.model.specs.Reader.{following, dropped, nothing};
-ghost use Rattle.common.specs.Seen.{mode_of, skipped_of, counts_of, counts_from};
+ghost use Rattle.common.specs.Seen.{mode_of, counts_of, counts_from};
 ghost use Rattle.panel.specs.Seen.{setup_of, panel_seen, unused_all, SameFrom};
 ghost use Rattle.follow.specs.Seen.{reader_of};
-ghost use Rattle.common.specs.Runs.{onward, FirstWithin, first_at, first_after};
+ghost use Rattle.common.specs.Runs.{onward};
 ghost use Rattle.follow.specs.Runs.{ended_from, lost_at, left_from, so_far, Skips};
 
 use acts::Act;
-use common::{Counts, FirstSkipped, Mode, SlotNumber, TrackingId};
+use common::{Counts, Mode, SlotNumber, TrackingId};
 use panel::{RECORDS, Setup, Slot};
 
 #[derive(Clone, Copy)]
@@ -48,26 +48,6 @@ pub fn lost(
     }
 }
 
-// The first record skipped, where `skipped` records were and record `first` is the first of them.
-fn first_of(bytes: &[u8], skipped: usize, first: usize) -> FirstSkipped
-    requires { FirstWithin skipped first (length bytes.now) }
-    ensures { skipped_of result ≡ first_at bytes.now skipped first }
-{
-    if skipped == 0 {
-        return FirstSkipped::None;
-    }
-    let e = records::record_at(bytes, 8 * first);
-    FirstSkipped::Event(e.kind, e.code)
-}
-
-// The number of the first record skipped, where record k is skipped too. A number and no event: what an event has would be kept in memory beside the
-// loop's other numbers.
-pub fn earliest(skipped: usize, first: usize, k: usize) -> usize
-    ensures { result ≡ first_after skipped first k }
-{
-    if 0 < skipped { first } else { k }
-}
-
 // What a run that follows has counted, here or in lent bytes; `first` is the number of the first record skipped.
 #[derive(Clone, Copy)]
 pub struct SoFar {
@@ -87,7 +67,7 @@ pub fn counted(bytes: &[u8], so: SoFar, bad: usize) -> Counts
         codes: so.codes,
         bad,
         ignored: 0,
-        first: first_of(bytes, so.types + so.codes, so.first),
+        first: common::first_skipped(bytes, so.types + so.codes, so.first),
     }
 }
 
@@ -145,11 +125,11 @@ pub fn follow(
         let value = records::word_at(bytes, 8 * k + 4);
         match act {
             Act::UnknownType => {
-                so.first = earliest(so.types + so.codes, so.first, k);
+                so.first = common::earliest(so.types + so.codes, so.first, k);
                 so.types += 1;
             }
             Act::UnknownCode => {
-                so.first = earliest(so.types + so.codes, so.first, k);
+                so.first = common::earliest(so.types + so.codes, so.first, k);
                 so.codes += 1;
             }
             Act::Report => {

@@ -12,7 +12,7 @@ ghost use Rattle.lent_devices.specs.Sticks.{up_to, most_byte, most_word, typed a
 
 use common::Verdict;
 use force::{Answer, Report};
-use recorder::{BLOCK, BlockRead};
+use recorder::{BLOCK, BlockRefusal, Run};
 
 // The numbers of a report, and of the answers: blocks, next and need; place and count; the need; a name and a report.
 pub const REPORT: usize = 6;
@@ -88,24 +88,24 @@ pub fn lay_blocks(
 }
 
 // Document 02's order of the names, and 0 for events.
-fn name_of(a: BlockRead) -> u32
+fn name_of(a: Result<Run, BlockRefusal>) -> u32
     ensures { result ≡ name_of a }
 {
     match a {
-        BlockRead::Events { .. } => 0,
-        BlockRead::WrongCheck => 1,
-        BlockRead::WrongNumber => 2,
-        BlockRead::CountOver => 3,
-        BlockRead::NotZero => 4,
+        Ok(_) => 0,
+        Err(BlockRefusal::WrongCheck) => 1,
+        Err(BlockRefusal::WrongNumber) => 2,
+        Err(BlockRefusal::CountOver) => 3,
+        Err(BlockRefusal::NotZero) => 4,
     }
 }
 
-fn read_told(a: BlockRead) -> [u64; FOUND]
+fn read_told(a: Result<Run, BlockRefusal>) -> [u64; FOUND]
     ensures { result ≡ read_told (read_seen a) }
 {
     match a {
-        BlockRead::Events { at, count } => [at as u64, count as u64],
-        _ => [0, 0],
+        Ok(run) => [run.at as u64, run.count as u64],
+        Err(_) => [0, 0],
     }
 }
 

@@ -145,13 +145,13 @@ pub fn follow(setup: Setup, t: &mut [u8], current0: SlotNumber, bytes: &[u8]) ->
         let value = records::word_at(bytes, 8 * k + 4);
         match act {
             Act::UnknownType => {
-                let f = follow::earliest(so.types + so.codes, so.first, k);
+                let f = common::earliest(so.types + so.codes, so.first, k);
                 so.first = f;
                 so.types += 1;
                 k += 1;
             }
             Act::UnknownCode => {
-                let f = follow::earliest(so.types + so.codes, so.first, k);
+                let f = common::earliest(so.types + so.codes, so.first, k);
                 so.first = f;
                 so.codes += 1;
                 k += 1;

@@ -22,7 +22,7 @@ use Rattle.records.proofs.Over.{lay-length}
 use Rattle.common.specs.declared.Mode.{Mode}
 use Rattle.common.specs.declared.Mode.TheVariants.{Following}
 use Rattle.common.specs.declared.Counts.{Counts}
-use Rattle.common.specs.declared.FirstSkipped.TheVariants.{None}
+use Rattle.std.specs.Prelude.{None}
 use Rattle.common.specs.Lost.{last_mode}
 use Rattle.common.specs.Runs.{onward}
 use Rattle.common.specs.Seen.{mode_of, mode_from, counts_of}

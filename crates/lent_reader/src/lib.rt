@@ -17,7 +17,7 @@ ghost use Rattle.lent_reader.specs.Layout.{head_size, reader_size, mode_in as mo
 ghost use Rattle.lent_reader.specs.Seen.{counts_row, asked_row, Told, FreshIn, RunIn, LoadIn, AskIn};
 ghost use Rattle.lent_reader.specs.Runs.{EndsIn};
 
-use common::{Counts, FirstSkipped, Mode, SlotNumber};
+use common::{Counts, Mode, SlotNumber};
 use lent::TABLE;
 use panel::{Setup, Slot};
 use reader::{ReaderState, SlotAnswer};
@@ -151,32 +151,20 @@ pub fn put_state(b: &mut [u8], kind: u8, more: u8, s: ReaderState)
 pub fn put_counts(answer: &mut [u64; RUN_NUMBERS], c: Counts)
     ensures { answer.new ≡ counts_row (counts_of c) }
 {
-    match c.first {
-        FirstSkipped::None => {
-            *answer = [
-                c.shown as u64,
-                c.types as u64,
-                c.codes as u64,
-                c.bad as u64,
-                c.ignored as u64,
-                0,
-                0,
-                0,
-            ];
-        }
-        FirstSkipped::Event(kind, code) => {
-            *answer = [
-                c.shown as u64,
-                c.types as u64,
-                c.codes as u64,
-                c.bad as u64,
-                c.ignored as u64,
-                1,
-                kind as u64,
-                code as u64,
-            ];
-        }
-    }
+    let (named, kind, code) = match c.first {
+        None => (0, 0, 0),
+        Some((kind, code)) => (1, kind as u64, code as u64),
+    };
+    *answer = [
+        c.shown as u64,
+        c.types as u64,
+        c.codes as u64,
+        c.bad as u64,
+        c.ignored as u64,
+        named,
+        kind,
+        code,
+    ];
 }
 
 fn put_contact(answer: &mut [i32; ASK_NUMBERS], s: Slot)
@@ -314,12 +302,8 @@ fn run_lost(b: &mut [u8], m: Mode, bytes: &[u8]) -> Counts
     let last = common::last_mode(m, bytes, 0);
     put_head(b, KIND, last, 0);
     Counts {
-        shown: 0,
-        types: 0,
-        codes: 0,
-        bad: 0,
         ignored: bytes.len() / 8,
-        first: FirstSkipped::None,
+        ..Counts::default()
     }
 }
 

@@ -8,6 +8,7 @@ use native.Mathlib.Omega.{arith}
 use lib.Dec.{T, eqb}
 use lib.ListN.{length, get_or, take, drop, set, drop_of_length-le}
 use lib.Seq.{take_all}
+use Rattle.std.specs.Prelude.{Result}
 use Rattle.model.specs.Panel.{base, crane_records, setup_good}
 use Rattle.model.specs.Table.{ids, live_differ, ids_differ}
 use Rattle.model.specs.Events.{Event}
@@ -56,7 +57,8 @@ use Rattle.reader.proofs.Held.{state_back}
 use Rattle.reader.specs.declared.SlotAnswer.{SlotAnswer}
 use Rattle.reader.specs.declared.SlotAnswer.TheVariants.{Unknown}
 use Rattle.pieces.specs.declared.FreshAnswer.{FreshAnswer as LineFresh}
-use Rattle.recorder.specs.declared.BlockRead.{BlockRead}
+use Rattle.recorder.specs.declared.Run.{Run}
+use Rattle.recorder.specs.declared.BlockRefusal.{BlockRefusal}
 use Rattle.recorder.specs.Host.{RecordingOf, Answered, heard, AllEvents}
 use Rattle.recorder.proofs.Replay.{heard_back, reads_back, none-refused}
 use Rattle.link.specs.Promises.{WriterMade, ReaderMade, Ran, Loaded, Asked, GoodWriter, GoodReader, pupil_of}
@@ -234,7 +236,7 @@ module _ (u : Setup) (on : Bool) (made : FreshWriter) (cs : List WriteCall) (m :
   written-bytes = subst AllBytes (sym (bytes_are made.state cs a)) (calls_bytes base base-good tt (W.seen made.state) (all_handed cs))
 
   module _ (n : ℕ) (s : List ℕ) (c : RecordingOf n (bytes_from cs) s) where
-    replayed_whole : (rs : List BlockRead) (r : FreshAnswer) (q : RunAnswer) → Answered n (pieces s) rs → ReaderMade u r
+    replayed_whole : (rs : List (Result Run BlockRefusal)) (r : FreshAnswer) (q : RunAnswer) → Answered n (pieces s) rs → ReaderMade u r
         → Ran r.state (heard (pieces s) rs) q → AllEvents rs × Follows shift (bytes_from cs) q
     unfolding shift_follows
     replayed_whole rs r q b e h = (
@@ -242,7 +244,8 @@ module _ (u : Setup) (on : Bool) (made : FreshWriter) (cs : List WriteCall) (m :
       shift_follows r q e (h ∙ ap (λ x. R.ran_from (run_call base (R.seen r.state) x)) (reads_back n (bytes_from cs) s c rs b)),
     )
 
-    module _ (i x k : ℕ) (rs : List BlockRead) (inside : i < length s) (other : x ≢ get_or s i 0) (b : Answered n (take k (pieces (set s i x))) rs) where
+    module _ (i x k : ℕ) (rs : List (Result Run BlockRefusal)) (inside : i < length s) (other : x ≢ get_or s i 0)
+        (b : Answered n (take k (pieces (set s i x))) rs) where
       abbrev ps : List (List ℕ)
       ps = take k (pieces (set s i x))
 

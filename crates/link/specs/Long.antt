@@ -1,5 +1,5 @@
 -- What K14 asks, of every moment of a shift: of a reader that is given all its bytes, at once, in pieces or from a recording, of one that comes late and loads the writer's table, of a crane's, and of the ids. Assumes nothing.
-use Rattle.std.specs.Prelude.{◌≡◌, ◌≢◌, true, ◌||◌, List, ◌++◌, ℕ, ◌/◌, ◌≤◌, ◌<◌, ℤ, length, get_or, take, set}
+use Rattle.std.specs.Prelude.{◌≡◌, ◌≢◌, true, ◌||◌, List, ◌++◌, ℕ, ◌/◌, ◌≤◌, ◌<◌, ℤ, length, get_or, take, set, Result}
 use Rattle.model.specs.Panel.{crane_records}
 use Rattle.model.specs.Table.{ids_differ}
 use Rattle.model.specs.Records.{events_of}
@@ -21,7 +21,8 @@ use Rattle.reader.specs.declared.SlotAnswer.{SlotAnswer}
 use Rattle.reader.specs.declared.SlotAnswer.TheVariants.{Unknown}
 use Rattle.pieces.specs.declared.LineState.{LineState}
 use Rattle.pieces.specs.declared.FreshAnswer.{FreshAnswer as LineFresh}
-use Rattle.recorder.specs.declared.BlockRead.{BlockRead}
+use Rattle.recorder.specs.declared.Run.{Run}
+use Rattle.recorder.specs.declared.BlockRefusal.{BlockRefusal}
 use Rattle.recorder.specs.Host.{RecordingOf, Answered, heard, AllEvents}
 use Rattle.crane_reader.specs.declared.FreshAnswer.{FreshAnswer as CraneFresh}
 use Rattle.crane_reader.specs.declared.RunAnswer.{RunAnswer as CraneAnswer}
@@ -66,11 +67,11 @@ pub record Joins (w : WriterState) (l : LoadAnswer) : Type 0 where
 -- the reader follows. With any one byte altered: what is heard of the first blocks is the beginning of bs up to the block of that byte, and once that block was
 -- heard every slot is answered "unknown".
 pub record Replays (u : Setup) (w : WriterState) (bs : List ℕ) (n : ℕ) (s : List ℕ) : Type 0 where
-  pub whole : (rs : List BlockRead) (r : FreshAnswer) (q : RunAnswer) → Answered n (pieces s) rs → ReaderMade u r → Ran r.state (heard (pieces s) rs) q
-      → AllEvents rs × Follows w bs q
-  pub begins : (i v k : ℕ) (rs : List BlockRead) → i < length s → v ≢ get_or s i 0 → k ≤ i / block_length
+  pub whole : (rs : List (Result Run BlockRefusal)) (r : FreshAnswer) (q : RunAnswer) → Answered n (pieces s) rs → ReaderMade u r
+      → Ran r.state (heard (pieces s) rs) q → AllEvents rs × Follows w bs q
+  pub begins : (i v k : ℕ) (rs : List (Result Run BlockRefusal)) → i < length s → v ≢ get_or s i 0 → k ≤ i / block_length
       → (let ps = take k (pieces (set s i v)) in Answered n ps rs → (rest : List ℕ) × (heard ps rs ++ rest ≡ bs))
-  pub unknown : (i v k : ℕ) (rs : List BlockRead) → i < length s → v ≢ get_or s i 0 → i / block_length < k
+  pub unknown : (i v k : ℕ) (rs : List (Result Run BlockRefusal)) → i < length s → v ≢ get_or s i 0 → i / block_length < k
       → (let ps = take k (pieces (set s i v)) in
       Answered n ps rs → (r : FreshAnswer) (q : RunAnswer) → ReaderMade u r → Ran r.state (heard ps rs) q
       → (slot : ℕ) (a : SlotAnswer) → slot < u.n → Asked q.state slot a → a ≡ Unknown)

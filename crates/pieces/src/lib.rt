@@ -5,17 +5,17 @@
 ghost use Rattle.std.specs.Prelude.{◌≡◌, true, ◌++◌, ◌+◌, ◌-◌, ◌≤◌, ◌<◌, ◌^◌, length, take as first, drop};
 ghost use Rattle.std.proofs.Math.Seq.{paste};
 ghost use Rattle.model.specs.Panel.{base};
-ghost use Rattle.model.specs.Reader.{nothing, plus, earlier as first_of};
+ghost use Rattle.model.specs.Reader.{plus};
 ghost use Rattle.model.specs.States.{reader_good};
 ghost use Rattle.model.specs.Pod.{zeros};
 ghost use Rattle.model.specs.Pieces.{left_bytes, places, placed, left_good, total, fresh_line_call, read_string, take_call, line_load_call, line_ask_call};
-ghost use Rattle.common.specs.Seen.{skipped_of, counts_of, counts_from};
+ghost use Rattle.common.specs.Seen.{counts_of, counts_from};
 ghost use Rattle.panel.specs.Seen.{setup_of};
 ghost use Rattle.reader.specs.States.{seen as reader_seen, given};
 ghost use Rattle.reader.specs.Seen.{AnswersAs};
 ghost use Rattle.pieces.specs.Seen.{seen, fresh_from, taken_from, took_from, unread_from, loaded_from};
 
-use common::{Counts, FirstSkipped, SlotNumber, Verdict};
+use common::{Counts, SlotNumber, Verdict};
 use reader::{ReaderState, RunAnswer, SlotAnswer};
 
 // One fewer than a record has bytes: its last byte is never held.
@@ -123,28 +123,6 @@ fn longer(left: [u8; PLACES], count: usize, piece: &[u8]) -> [u8; PLACES]
     all
 }
 
-fn none() -> Counts
-    ensures { result ≡ counts_from nothing }
-{
-    Counts {
-        shown: 0,
-        types: 0,
-        codes: 0,
-        bad: 0,
-        ignored: 0,
-        first: FirstSkipped::None,
-    }
-}
-
-fn earlier(a: FirstSkipped, b: FirstSkipped) -> FirstSkipped
-    ensures { skipped_of result ≡ first_of (skipped_of a) (skipped_of b) }
-{
-    match a {
-        FirstSkipped::None => b,
-        _ => a,
-    }
-}
-
 fn added(a: Counts, b: Counts) -> Counts
     requires { total (counts_of a) + total (counts_of b) < 2 ^ 64 }
     ensures { result ≡ counts_from (plus (counts_of a) (counts_of b)) }
@@ -155,18 +133,19 @@ fn added(a: Counts, b: Counts) -> Counts
         codes: a.codes + b.codes,
         bad: a.bad + b.bad,
         ignored: a.ignored + b.ignored,
-        first: earlier(a.first, b.first),
+        first: a.first.or(b.first),
     }
 }
 
 // The answer where no record is read.
+#[tactic(auto, using(common::proofs::Back::none_counted))]
 fn unread(verdict: Verdict, state: LineState) -> TakeAnswer
     ensures { result ≡ unread_from verdict state }
 {
     TakeAnswer {
         verdict,
         state,
-        counts: none(),
+        counts: Counts::default(),
     }
 }
 
@@ -220,7 +199,11 @@ pub fn take(state: LineState, piece: &[u8]) -> TakeAnswer
         return unread(Verdict::Accepted, next);
     }
     if count == 0 {
-        return took(none(), reader::run_accepted(reader, piece), piece);
+        return took(
+            Counts::default(),
+            reader::run_accepted(reader, piece),
+            piece,
+        );
     }
     take_cut(reader, left, count, piece)
 }

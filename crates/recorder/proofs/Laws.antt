@@ -15,7 +15,9 @@ use Rattle.model.specs.Pod.{zeros}
 use Rattle.model.specs.Recorder as M
 use Rattle.model.specs.Recorder.{weighed, part}
 use Rattle.model.proofs.Weights.{weighed-more}
-use Rattle.recorder.specs.declared.BlockRead.{BlockRead}
+use Rattle.std.specs.Prelude.{Result}
+use Rattle.recorder.specs.declared.Run.{Run}
+use Rattle.recorder.specs.declared.BlockRefusal.{BlockRefusal}
 use Rattle.recorder.specs.Seen.{held_read, read_seen, AnswersAs}
 
 -- One byte more is summed.
@@ -65,7 +67,7 @@ read-seen M.count_over = refl
 read-seen M.not_zero = refl
 
 -- So all that `read_block` promises follows from the answer alone.
-pub answered : (n : ℕ) (p : List ℕ) (r : BlockRead) → r ≡ held_read (M.read_block n p) → AnswersAs n p r
+pub answered : (n : ℕ) (p : List ℕ) (r : Result Run BlockRefusal) → r ≡ held_read (M.read_block n p) → AnswersAs n p r
 answered n p r e =
     let back = ap read_seen e ∙ read-seen (M.read_block n p) in
     record { answer = e; name = ap M.read_number back; values = ap M.read_values back }

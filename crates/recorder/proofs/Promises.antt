@@ -8,6 +8,7 @@ use Prim.Native.Nat.{ℕ, ◌-◌, ◌≤◌, ◌<◌}
 use native.Mathlib.Omega.{arith}
 use lib.Dec.{T, leb, leb→le}
 use lib.ListN.{length, get_or, set}
+use Rattle.std.specs.Prelude.{Result, Ok, Err}
 use Rattle.model.specs.Refusals.{Exact}
 use Rattle.model.specs.Numbers.{between}
 use Rattle.model.specs.Recorder as M
@@ -21,8 +22,9 @@ use Rattle.common.specs.Seen.{verdict_number}
 use Rattle.common.proofs.Back.{number-seen}
 use Rattle.recorder.specs.declared.BlockMade.{BlockMade}
 use Rattle.recorder.specs.declared.BlocksLaid.{BlocksLaid}
-use Rattle.recorder.specs.declared.BlockRead.{BlockRead}
-use Rattle.recorder.specs.declared.BlockRead.TheVariants.{Events, WrongCheck}
+use Rattle.recorder.specs.declared.Run.{Run}
+use Rattle.recorder.specs.declared.BlockRefusal.{BlockRefusal}
+use Rattle.recorder.specs.declared.BlockRefusal.TheVariants.{WrongCheck}
 use Rattle.recorder.specs.Seen.{made_from, LaysAs, held_read, read_seen, name_of, values_of, AnswersAs}
 use Rattle.recorder.specs.Host.{ReadsBack}
 use Rattle.recorder.proofs.Laws.{read-seen}
@@ -40,7 +42,7 @@ pub lays : (κs : _) (a : _) (r : BlocksLaid) (t : _) → lay-blocks.Learnt κs 
     → LaysAs a.0 a.1.0.now a.1.1.1.0 a.1.1.0.now t.1.1.0.now r
 lays κs a r t e = e
 
-pub reads : (κs : _) (a : _) (r : BlockRead) (t : _) → read-block.Learnt κs a r t → AnswersAs a.1.0 a.0.now r
+pub reads : (κs : _) (a : _) (r : Result Run BlockRefusal) (t : _) → read-block.Learnt κs a r t → AnswersAs a.1.0 a.0.now r
 reads κs a r t e = e
 
 -- ---- refused exactly when
@@ -61,14 +63,14 @@ laid_exact n es at buf after r l =
     (L.lay_exact n es at (length buf))
 
 -- `read_block`: document 02's four names, in its order.
-pub named_exact : (n : ℕ) (p : List ℕ) (r : BlockRead) → AnswersAs n p r → Exact (name_of r) (M.read_rows n p)
+pub named_exact : (n : ℕ) (p : List ℕ) (r : Result Run BlockRefusal) → AnswersAs n p r → Exact (name_of r) (M.read_rows n p)
 named_exact n p r a = subst (λ v. Exact v (M.read_rows n p)) (sym a.name) (read_exact n p)
 
 -- ---- a block that is made, and one that is read
 
 -- What is answered with its events is good.
-answered-good : (n : ℕ) (p : List ℕ) (r : BlockRead) (at count : ℕ) → AnswersAs n p r → r ≡ Events at count → Good n p
-answered-good n p r at count a e = read-good n p at count (sym (read-seen (M.read_block n p)) ∙ ap read_seen (sym a.answer ∙ e))
+answered-good : (n : ℕ) (p : List ℕ) (r : Result Run BlockRefusal) (run : Run) → AnswersAs n p r → r ≡ Ok run → Good n p
+answered-good n p r run a e = read-good n p run.at run.count (sym (read-seen (M.read_block n p)) ∙ ap read_seen (sym a.answer ∙ e))
 
 -- A block that was made is the model's, of a number, events and whole records that the call takes.
 made-is : (n : ℕ) (es : List ℕ) (r : BlockMade) → r ≡ made_from (M.block_call n es) → r.verdict ≡ Accepted
@@ -81,8 +83,8 @@ made-is n es r e ok =
     (all, ap (λ (x : BlockMade). x.block) (e ∙ sym (made n es numbered sized (is_true _ (both_right (M.block_good n es) _ all)))))
 
 -- Its check fits, and it reads back to its events.
-pub made_reads : (n : ℕ) (es : List ℕ) (r : BlockMade) (q : BlockRead) → r ≡ made_from (M.block_call n es) → r.verdict ≡ Accepted → AllBytes es
-    → AnswersAs n r.block q → ReadsBack es r.block q
+pub made_reads : (n : ℕ) (es : List ℕ) (r : BlockMade) (q : Result Run BlockRefusal) → r ≡ made_from (M.block_call n es)
+    → r.verdict ≡ Accepted → AllBytes es → AnswersAs n r.block q → ReadsBack es r.block q
 made_reads n es r q e ok bytes a =
     let m = made-is n es r e ok in
     let b = M.block_of n es in
@@ -102,18 +104,18 @@ made_reads n es r q e ok bytes a =
     })
 
 -- The events of an answer are inside the block: behind the header, and at most 62.
-pub events_within : (n : ℕ) (p : List ℕ) (r : BlockRead) (at count : ℕ) → AnswersAs n p r → r ≡ Events at count
-    → (at ≡ M.header_length) × (count ≤ M.most_in_block) × (length p ≡ block_length)
-events_within n p r at count a e =
-    let good = answered-good n p r at count a e in
-    let values : at ∷ count ∷ [] ≡ M.header_length ∷ M.count_in p ∷ [] = ap values_of (sym e) ∙ a.values ∙ ap M.read_values (good-read n p good) in
-    let k : count ≡ M.count_in p = ap (λ l. get_or l 1 0) values in
+pub events_within : (n : ℕ) (p : List ℕ) (r : Result Run BlockRefusal) (run : Run) → AnswersAs n p r → r ≡ Ok run
+    → (run.at ≡ M.header_length) × (run.count ≤ M.most_in_block) × (length p ≡ block_length)
+events_within n p r run a e =
+    let good = answered-good n p r run a e in
+    let values : run.at ∷ run.count ∷ [] ≡ M.header_length ∷ M.count_in p ∷ [] = ap values_of (sym e) ∙ a.values ∙ ap M.read_values (good-read n p good) in
+    let k : run.count ≡ M.count_in p = ap (λ l. get_or l 1 0) values in
     (ap (λ l. get_or l 0 0) values, omega (arith, good.count), good.size)
 
 -- ---- one altered byte
 
 -- Whatever block `read_block` answers with its events, and whatever byte of it is altered: it is refused by its check, whatever number is expected.
-pub altered_block : (n m : ℕ) (p : List ℕ) (r q : BlockRead) (at count i v : ℕ) → AnswersAs n p r → r ≡ Events at count
-    → i < block_length → v ≢ get_or p i 0 → AnswersAs m (set p i v) q → q ≡ WrongCheck
-altered_block n m p r q at count i v a e h d b =
-    b.answer ∙ ap held_read (altered_refused n m p i v (answered-good n p r at count a e) h d)
+pub altered_block : (n m : ℕ) (p : List ℕ) (r q : Result Run BlockRefusal) (run : Run) (i v : ℕ) → AnswersAs n p r → r ≡ Ok run
+    → i < block_length → v ≢ get_or p i 0 → AnswersAs m (set p i v) q → q ≡ Err WrongCheck
+altered_block n m p r q run i v a e h d b =
+    b.answer ∙ ap held_read (altered_refused n m p i v (answered-good n p r run a e) h d)

@@ -8,6 +8,7 @@ use Prim.Native.Nat.{ℕ, suc, zero, ◌+◌, ◌-◌, ◌*◌, ◌/◌, ◌%◌
 use native.Mathlib.Omega.{arith}
 use lib.Dec.{T, leb, leb→le}
 use lib.ListN.{length, get_or, take, drop, set, length-append}
+use Rattle.std.specs.Prelude.{Result, Err}
 use Rattle.model.specs.Calls.{room_for}
 use Rattle.model.specs.Events.{Event}
 use Rattle.model.specs.Records.{bytes_of, events_of}
@@ -21,8 +22,9 @@ use Rattle.model.proofs.Recordings as R
 use Rattle.model.proofs.Tampered as T
 use Rattle.common.specs.Seen.{verdict_number}
 use Rattle.recorder.specs.declared.BlocksLaid.{BlocksLaid}
-use Rattle.recorder.specs.declared.BlockRead.{BlockRead}
-use Rattle.recorder.specs.declared.BlockRead.TheVariants.{WrongCheck, WrongNumber}
+use Rattle.recorder.specs.declared.Run.{Run}
+use Rattle.recorder.specs.declared.BlockRefusal.{BlockRefusal}
+use Rattle.recorder.specs.declared.BlockRefusal.TheVariants.{WrongCheck, WrongNumber}
 use Rattle.recorder.specs.Seen.{held_read, read_seen}
 use Rattle.recorder.specs.Host.{Recorded, RecordingOf, Answered, heard, AllEvents, RefusedAs}
 use Rattle.recorder.proofs.Laws.{read-seen, answered}
@@ -99,24 +101,24 @@ continued n m xs s ys t r full e d bytes =
 
 -- ---- answers to pieces, one after the other, are the model's
 
-held-answers : (n : ℕ) (ps : List (List ℕ)) (rs : List BlockRead) → Answered n ps rs → rs ≡ map held_read (answers n ps)
+held-answers : (n : ℕ) (ps : List (List ℕ)) (rs : List (Result Run BlockRefusal)) → Answered n ps rs → rs ≡ map held_read (answers n ps)
 held-answers n [] [] a = refl
 held-answers n [] (r ∷ rs) a = absurd a
 held-answers n (p ∷ ps) [] a = absurd a
-held-answers n (p ∷ ps) (r ∷ rs) a = ap₂ {C = List BlockRead} (λ x xs. x ∷ xs) a.0.answer (held-answers (suc n) ps rs a.1)
+held-answers n (p ∷ ps) (r ∷ rs) a = ap₂ {C = List (Result Run BlockRefusal)} (λ x xs. x ∷ xs) a.0.answer (held-answers (suc n) ps rs a.1)
 
 -- There are such answers, whatever the pieces.
 pub answers_are : (n : ℕ) (ps : List (List ℕ)) → Answered n ps (map held_read (answers n ps))
 answers_are n [] = tt
 answers_are n (p ∷ ps) = (answered n p (held_read (M.read_block n p)) refl, answers_are (suc n) ps)
 
-pub heard_back : (n : ℕ) (ps : List (List ℕ)) (rs : List BlockRead) → Answered n ps rs → heard ps rs ≡ read_back n ps
+pub heard_back : (n : ℕ) (ps : List (List ℕ)) (rs : List (Result Run BlockRefusal)) → Answered n ps rs → heard ps rs ≡ read_back n ps
 heard_back n [] rs a = refl
 heard_back n (p ∷ ps) [] a = absurd a
 heard_back n (p ∷ ps) (r ∷ rs) a =
     ap₂ (λ x y. M.said x p ++ y) (ap read_seen a.0.answer ∙ read-seen (M.read_block n p)) (heard_back (suc n) ps rs a.1)
 
-all_events : (n : ℕ) (ps : List (List ℕ)) (rs : List BlockRead) → Answered n ps rs → M.NoneRefused (answers n ps) → AllEvents rs
+all_events : (n : ℕ) (ps : List (List ℕ)) (rs : List (Result Run BlockRefusal)) → Answered n ps rs → M.NoneRefused (answers n ps) → AllEvents rs
 all_events n [] [] a h = tt
 all_events n [] (r ∷ rs) a h = absurd a
 all_events n (p ∷ ps) [] a h = absurd a
@@ -138,14 +140,16 @@ set-held zero (y ∷ l) x = refl
 set-held (suc j) (y ∷ l) x = ap (λ r. held_read y ∷ r) (set-held j l x)
 
 -- What is refused of the model's answers is refused of a host's.
-held-refused : (j n : ℕ) (why : M.BlockRead) (whole ps : List (List ℕ)) (ws rs : List BlockRead) → M.RefusedAt j why n whole ps
-    → Answered n whole ws → Answered n ps rs → RefusedAs j (held_read why) ws rs
-held-refused j n why whole ps ws rs r a b =
+held-refused : (j n : ℕ) (why : M.BlockRead) (name : BlockRefusal) (whole ps : List (List ℕ)) (ws rs : List (Result Run BlockRefusal))
+    → held_read why ≡ Err name → M.RefusedAt j why n whole ps → Answered n whole ws → Answered n ps rs → RefusedAs j name ws rs
+held-refused j n why name whole ps ws rs h r a b =
     let w = held-answers n whole ws a in
     let e = held-answers n ps rs b in
     record {
       before = ap (take j) e ∙ take-held j (answers n ps) ∙ ap (map held_read) r.before ∙ sym (ap (take j) w ∙ take-held j (answers n whole));
-      there = ap (λ l. take 1 (drop j l)) e ∙ ap (take 1) (drop-held j (answers n ps)) ∙ take-held 1 (drop j (answers n ps)) ∙ ap (map held_read) r.there;
+      there =
+          ap (λ l. take 1 (drop j l)) e ∙ ap (take 1) (drop-held j (answers n ps)) ∙ take-held 1 (drop j (answers n ps)) ∙ ap (map held_read) r.there
+          ∙ ap (λ x. x ∷ []) h;
     }
 
 -- ---- what a recording is answered
@@ -161,46 +165,46 @@ module _ (n : ℕ) (es s : List ℕ) (c : RecordingOf n es s) where
   cut = ap pieces c.laid ∙ R.pieces-joined all long
 
   -- Its pieces, read one after the other, give back the records that were recorded, and none is refused.
-  pub reads_back : (rs : List BlockRead) → Answered n (pieces s) rs → heard (pieces s) rs ≡ es
+  pub reads_back : (rs : List (Result Run BlockRefusal)) → Answered n (pieces s) rs → heard (pieces s) rs ≡ es
   reads_back rs a =
       heard_back n (pieces s) rs a ∙ ap (λ x. read_back n (pieces x)) c.laid ∙ R.reads_back n es c.numbers c.bytes c.records
 
-  pub none-refused : (rs : List BlockRead) → Answered n (pieces s) rs → AllEvents rs
+  pub none-refused : (rs : List (Result Run BlockRefusal)) → Answered n (pieces s) rs → AllEvents rs
   none-refused rs a =
       all_events n (pieces s) rs a
       (subst (λ x. M.NoneRefused (answers n (pieces x))) (sym c.laid) (R.none-refused n es c.numbers c.bytes c.records))
 
   -- What is refused of the model's recording is refused of these bytes.
-  refused : (j : ℕ) (why : M.BlockRead) (ps : List (List ℕ)) (ws rs : List BlockRead) → M.RefusedAt j why n all ps
-      → Answered n (pieces s) ws → Answered n ps rs → RefusedAs j (held_read why) ws rs
-  refused j why ps ws rs r a b = held-refused j n why (pieces s) ps ws rs (subst (λ w. M.RefusedAt j why n w ps) (sym cut) r) a b
+  refused : (j : ℕ) (why : M.BlockRead) (name : BlockRefusal) (ps : List (List ℕ)) (ws rs : List (Result Run BlockRefusal))
+      → held_read why ≡ Err name → M.RefusedAt j why n all ps → Answered n (pieces s) ws → Answered n ps rs → RefusedAs j name ws rs
+  refused j why name ps ws rs h r a b = held-refused j n why name (pieces s) ps ws rs h (subst (λ w. M.RefusedAt j why n w ps) (sym cut) r) a b
 
   -- A block left out, unless it is the last; a block doubled; two blocks in each other's place.
-  pub left_out : (xs : List (List ℕ)) (b d : List ℕ) (ys : List (List ℕ)) (ws rs : List BlockRead) → pieces s ≡ xs ++ b ∷ d ∷ ys
+  pub left_out : (xs : List (List ℕ)) (b d : List ℕ) (ys : List (List ℕ)) (ws rs : List (Result Run BlockRefusal)) → pieces s ≡ xs ++ b ∷ d ∷ ys
       → Answered n (pieces s) ws → Answered n (pieces (joined (xs ++ d ∷ ys))) rs → RefusedAs (length xs) WrongNumber ws rs
   left_out xs b d ys ws rs e =
-      refused (length xs) M.wrong_number _ ws rs (T.left_out n es c.numbers c.bytes c.records xs b d ys (sym cut ∙ e))
+      refused (length xs) M.wrong_number WrongNumber _ ws rs refl (T.left_out n es c.numbers c.bytes c.records xs b d ys (sym cut ∙ e))
 
-  pub doubled : (xs : List (List ℕ)) (b : List ℕ) (ys : List (List ℕ)) (ws rs : List BlockRead) → pieces s ≡ xs ++ b ∷ ys
+  pub doubled : (xs : List (List ℕ)) (b : List ℕ) (ys : List (List ℕ)) (ws rs : List (Result Run BlockRefusal)) → pieces s ≡ xs ++ b ∷ ys
       → Answered n (pieces s) ws → Answered n (pieces (joined (xs ++ b ∷ b ∷ ys))) rs → RefusedAs (suc (length xs)) WrongNumber ws rs
   doubled xs b ys ws rs e =
-      refused (suc (length xs)) M.wrong_number _ ws rs (T.doubled n es c.numbers c.bytes c.records xs b ys (sym cut ∙ e))
+      refused (suc (length xs)) M.wrong_number WrongNumber _ ws rs refl (T.doubled n es c.numbers c.bytes c.records xs b ys (sym cut ∙ e))
 
-  pub exchanged : (xs : List (List ℕ)) (b : List ℕ) (ys : List (List ℕ)) (d : List ℕ) (zs : List (List ℕ)) (ws rs : List BlockRead)
+  pub exchanged : (xs : List (List ℕ)) (b : List ℕ) (ys : List (List ℕ)) (d : List ℕ) (zs : List (List ℕ)) (ws rs : List (Result Run BlockRefusal))
       → pieces s ≡ xs ++ b ∷ (ys ++ d ∷ zs)
       → Answered n (pieces s) ws → Answered n (pieces (joined (xs ++ d ∷ (ys ++ b ∷ zs)))) rs → RefusedAs (length xs) WrongNumber ws rs
   exchanged xs b ys d zs ws rs e =
-      refused (length xs) M.wrong_number _ ws rs (T.exchanged n es c.numbers c.bytes c.records xs b ys d zs (sym cut ∙ e))
+      refused (length xs) M.wrong_number WrongNumber _ ws rs refl (T.exchanged n es c.numbers c.bytes c.records xs b ys d zs (sym cut ∙ e))
 
   -- A cut inside a block; a cut between two blocks, which nothing tells: the answers are those of the blocks before it.
-  pub cut_inside : (k : ℕ) (ws rs : List BlockRead) → k < length s → k % block_length ≢ 0
+  pub cut_inside : (k : ℕ) (ws rs : List (Result Run BlockRefusal)) → k < length s → k % block_length ≢ 0
       → Answered n (pieces s) ws → Answered n (pieces (take k s)) rs → RefusedAs (k / block_length) WrongCheck ws rs
   cut_inside k ws rs h r a b =
       let t = T.cut_inside n es c.numbers c.bytes c.records k (subst (λ x. k < length x) c.laid h) r in
-      refused (k / block_length) M.wrong_check (pieces (take k s)) ws rs
+      refused (k / block_length) M.wrong_check WrongCheck (pieces (take k s)) ws rs refl
       (subst (λ x. M.RefusedAt (k / block_length) M.wrong_check n all (pieces (take k x))) (sym c.laid) t) a b
 
-  pub cut-between : (j : ℕ) (ws rs : List BlockRead) → j ≤ length (pieces s)
+  pub cut-between : (j : ℕ) (ws rs : List (Result Run BlockRefusal)) → j ≤ length (pieces s)
       → Answered n (pieces s) ws → Answered n (pieces (take (block_length * j) s)) rs → rs ≡ take j ws
   cut-between j ws rs h a b =
       let t = T.cut-between n es c.numbers c.bytes c.records j (subst (λ ps. j ≤ length ps) cut h) in
@@ -210,17 +214,17 @@ module _ (n : ℕ) (es s : List ℕ) (c : RecordingOf n es s) where
       ∙ sym (ap (take j) (held-answers n (pieces s) ws a) ∙ take-held j (answers n (pieces s)))
 
   -- One byte altered, anywhere: the piece that it is in is refused, and every other is answered as before.
-  pub altered : (i v : ℕ) (ws rs : List BlockRead) → i < length s → v ≢ get_or s i 0
-      → Answered n (pieces s) ws → Answered n (pieces (set s i v)) rs → rs ≡ set ws (i / block_length) WrongCheck
+  pub altered : (i v : ℕ) (ws rs : List (Result Run BlockRefusal)) → i < length s → v ≢ get_or s i 0
+      → Answered n (pieces s) ws → Answered n (pieces (set s i v)) rs → rs ≡ set ws (i / block_length) (Err WrongCheck)
   altered i v ws rs h d a b =
       let inside = subst (λ y. i < length y) c.laid h in
       let other = subst (λ y. v ≢ get_or y i 0) c.laid d in
       let t = T.altered_recording n es c.numbers c.bytes c.records i v inside other in
       held-answers n (pieces (set s i v)) rs b ∙ ap (λ y. map held_read (answers n (pieces (set y i v)))) c.laid ∙ ap (map held_read) t
       ∙ set-held (i / block_length) (answers n all) M.wrong_check
-      ∙ ap (λ l. set l (i / block_length) WrongCheck) (sym (held-answers n (pieces s) ws a ∙ ap (λ ps. map held_read (answers n ps)) cut))
+      ∙ ap (λ l. set l (i / block_length) (Err WrongCheck)) (sym (held-answers n (pieces s) ws a ∙ ap (λ ps. map held_read (answers n ps)) cut))
 
 -- The same of events that records can carry, which the reader of records reads again.
-pub events_back : (n : ℕ) (es : List Event) (s : List ℕ) (rs : List BlockRead) → AllCarried es → RecordingOf n (bytes_of es) s
+pub events_back : (n : ℕ) (es : List Event) (s : List ℕ) (rs : List (Result Run BlockRefusal)) → AllCarried es → RecordingOf n (bytes_of es) s
     → Answered n (pieces s) rs → events_of (heard (pieces s) rs) ≡ es
 events_back n es s rs carried c a = ap events_of (reads_back n (bytes_of es) s c rs a) ∙ decoded es carried

@@ -44,10 +44,16 @@ pub struct BlocksLaid {
     pub need: usize,
 }
 
-// The place and count of a block's events, or the name that it is refused by.
-#[derive(Clone, Copy)]
-pub enum BlockRead {
-    Events { at: usize, count: usize },
+// The place and count of a block's events.
+#[derive(Clone, Copy, Debug, PartialEq, Eq)]
+pub struct Run {
+    pub at: usize,
+    pub count: usize,
+}
+
+// The name that a block is refused by.
+#[derive(Clone, Copy, Debug, PartialEq, Eq)]
+pub enum BlockRefusal {
     WrongCheck,
     WrongNumber,
     CountOver,
@@ -218,30 +224,30 @@ fn count_of(block: &[u8]) -> usize
 }
 
 // The first of the four tests that fails names the refusal.
-fn judged(check: bool, number: bool, count: usize, zero: bool) -> BlockRead
+fn judged(check: bool, number: bool, count: usize, zero: bool) -> Result<Run, BlockRefusal>
     ensures { result ≡ held_read (judged_block check number count zero) }
 {
     if !check {
-        return BlockRead::WrongCheck;
+        return Err(BlockRefusal::WrongCheck);
     }
     if !number {
-        return BlockRead::WrongNumber;
+        return Err(BlockRefusal::WrongNumber);
     }
     if MOST < count {
-        return BlockRead::CountOver;
+        return Err(BlockRefusal::CountOver);
     }
     if !zero {
-        return BlockRead::NotZero;
+        return Err(BlockRefusal::NotZero);
     }
-    BlockRead::Events { at: HEADER, count }
+    Ok(Run { at: HEADER, count })
 }
 
 // One block where a number is expected. A piece of another length has a wrong check; of a block all tests are made, and the order is in `judged`.
-pub fn read_block(block: &[u8], number: u32) -> BlockRead
+pub fn read_block(block: &[u8], number: u32) -> Result<Run, BlockRefusal>
     ensures { AnswersAs number block.now result }
 {
     if block.len() != BLOCK {
-        return BlockRead::WrongCheck;
+        return Err(BlockRefusal::WrongCheck);
     }
     let check = sum_of(block) == four_at(block, CHECK);
     let numbered = four_at(block, 0) == number;

@@ -1,16 +1,15 @@
 // A refused block's name, as the programs print it.
-use crate::BlockRead;
+use crate::BlockRefusal;
 use std::fmt;
 use std::fmt::{Display, Formatter, Write};
 
-impl Display for BlockRead {
+impl Display for BlockRefusal {
     fn fmt<W: Write>(&self, f: &mut Formatter<W>) -> fmt::Result {
         match self {
-            BlockRead::Events { at: _, count: _ } => write!(f, "events"),
-            BlockRead::WrongCheck => write!(f, "wrong check"),
-            BlockRead::WrongNumber => write!(f, "wrong number"),
-            BlockRead::CountOver => write!(f, "count over 62"),
-            BlockRead::NotZero => write!(f, "not zero"),
+            BlockRefusal::WrongCheck => write!(f, "wrong check"),
+            BlockRefusal::WrongNumber => write!(f, "wrong number"),
+            BlockRefusal::CountOver => write!(f, "count over 62"),
+            BlockRefusal::NotZero => write!(f, "not zero"),
         }
     }
 }

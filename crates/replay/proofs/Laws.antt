@@ -1,13 +1,15 @@
 -- The laws that the promises of src/main.rt need: where a piece's events lie, what a piece's answer says, and what is answered past the last number. Assumes nothing.
 use Rattle.std.proofs.Common.{◌≡◌, ℕ, ◌+◌, ◌-◌, ◌≤◌, Bool, true, false, eqb, leb, ◌≢◌, List, length, take, drop, sym, refl, ap, ◌∙◌, arith}
+use Rattle.std.specs.Prelude.{Result, Ok, Err}
 use Rattle.model.specs.Panel.{base}
 use Rattle.model.specs.Calls.{run_call}
 use Rattle.model.specs.Recorder as M
 use Rattle.model.proofs.Blocks.{check-first, number-second}
 use Rattle.model.proofs.Tampered.{drop-take}
 use Rattle.recorder.specs.Seen.{held_read, read_seen}
-use Rattle.recorder.specs.declared.BlockRead.{BlockRead}
-use Rattle.recorder.specs.declared.BlockRead.TheVariants.{Events, WrongNumber}
+use Rattle.recorder.specs.declared.Run.{Run}
+use Rattle.recorder.specs.declared.BlockRefusal.{BlockRefusal}
+use Rattle.recorder.specs.declared.BlockRefusal.TheVariants.{WrongCheck, WrongNumber, CountOver, NotZero}
 use Rattle.recorder.proofs.Laws.{read-seen, answered}
 use Rattle.recorder.proofs.Promises.{events_within}
 use Rattle.reader.specs.States.{seen, held}
@@ -15,9 +17,9 @@ use Rattle.reader.specs.declared.ReaderState.{ReaderState}
 use Rattle.replay.specs.Heard.{past_last, HearsAs}
 
 -- A piece that is answered with its events is a whole block, and they lie inside it.
-pub inside : (n : ℕ) (p : List ℕ) (r : BlockRead) (at count : ℕ) → r ≡ held_read (M.read_block n p) → r ≡ Events at count
-    → (at ≡ M.header_length) × (count ≤ M.most_in_block) × (length p ≡ M.block_length)
-inside n p r at count e q = events_within n p r at count (answered n p r e) q
+pub inside : (n : ℕ) (p : List ℕ) (r : Result Run BlockRefusal) (run : Run) → r ≡ held_read (M.read_block n p) → r ≡ Ok run
+    → (run.at ≡ M.header_length) × (run.count ≤ M.most_in_block) × (length p ≡ M.block_length)
+inside n p r run e q = events_within n p r run (answered n p r e) q
 
 -- A lent part of it is the model's.
 pub cut : (at k : ℕ) (p : List ℕ) → take (at + k - at) (drop at p) ≡ M.part at (at + k) p
@@ -25,14 +27,21 @@ cut at k p =
     let all : at + k - at ≡ k = omega arith in
     ap (λ n. take n (drop at p)) all ∙ sym (drop-take at k p)
 
+-- A refused piece says a loss, by whatever name it is refused.
+pub lost : (why : BlockRefusal) (p : List ℕ) → M.loss ≡ M.said (read_seen (Err why)) p
+lost WrongCheck p = refl
+lost WrongNumber p = refl
+lost CountOver p = refl
+lost NotZero p = refl
+
 -- A reader that ran the records which a piece's answer says heard the piece.
-pub hears : (s : ReaderState) (n : ℕ) (p : List ℕ) (after : ReaderState) (r read v : BlockRead)
-    → r ≡ held_read (M.read_block n p) → r ≡ v → after ≡ held (run_call base (seen s) (M.said (read_seen v) p)).state → read ≡ r
+pub hears : (s : ReaderState) (n : ℕ) (p : List ℕ) (after : ReaderState) (r read v : Result Run BlockRefusal)
+    → r ≡ held_read (M.read_block n p) → r ≡ v → after ≡ held (run_call base (seen s) (M.said (read_seen v) p)).state → read ≡ v
     → HearsAs s n p after read
 hears s n p after r read v e q h k =
     let b = M.read_block n p in
     let same : read_seen v ≡ b = ap read_seen (sym q ∙ e) ∙ read-seen b in
-    record { state = h ∙ ap (λ x. held (run_call base (seen s) (M.said x p)).state) same; answer = k ∙ e }
+    record { state = h ∙ ap (λ x. held (run_call base (seen s) (M.said x p)).state) same; answer = k ∙ sym q ∙ e }
 
 -- ---- past the last number
 
@@ -53,9 +62,9 @@ unlike : (place : ℕ) (p : List ℕ) → M.AllBytes p → M.number_limit ≤ pl
 unlike place p bytes h e = omega (arith, bytes 0, bytes 1, bytes 2, bytes 3)
 
 pub past-last : (n place : ℕ) (p : List ℕ) → M.AllBytes p → M.number_limit ≤ place
-    → past_last (held_read (M.read_block n p)) ≡ held_read (M.read_block place p)
+    → Err (past_last (held_read (M.read_block n p))) ≡ held_read (M.read_block place p)
 past-last n place p bytes h = by_check (M.check_good p) refl
   where
-    by_check : (t : Bool) → M.check_good p ≡ t → past_last (held_read (M.read_block n p)) ≡ held_read (M.read_block place p)
-    by_check true e = right n p e ∙ sym (ap held_read (number-second place p e (unlike place p bytes h)))
-    by_check false e = ap (λ x. past_last (held_read x)) (check-first n p e) ∙ sym (ap held_read (check-first place p e))
+    by_check : (t : Bool) → M.check_good p ≡ t → Err (past_last (held_read (M.read_block n p))) ≡ held_read (M.read_block place p)
+    by_check true e = ap Err (right n p e) ∙ sym (ap held_read (number-second place p e (unlike place p bytes h)))
+    by_check false e = ap (λ x. Err (past_last (held_read x))) (check-first n p e) ∙ sym (ap held_read (check-first place p e))

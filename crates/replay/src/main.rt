@@ -2,7 +2,7 @@
 // A refused block is read as SYN_DROPPED and named on standard error. Each block is expected to carry its place, also after a refused one.
 #![tactic(auto)]
 
-ghost use Rattle.std.specs.Prelude.{◌≡◌};
+ghost use Rattle.std.specs.Prelude.{◌≡◌, Ok, Err};
 ghost use Rattle.model.specs.Panel.{base};
 ghost use Rattle.model.specs.Calls.{run_call};
 ghost use Rattle.model.specs.Recorder.{read_block, loss};
@@ -14,7 +14,7 @@ use common::Verdict;
 use ending::Tally;
 use header::Bad;
 use reader::ReaderState;
-use recorder::{BLOCK, BlockRead};
+use recorder::{BLOCK, BlockRefusal, Run};
 use records::LENGTH;
 use stream::{Ended, Out, Status, warn};
 
@@ -23,25 +23,22 @@ const LAST_NUMBER: u64 = 4294967295;
 
 const NO_NUMBER: u32 = 0;
 
-// What a block past the last number is answered: no number is right for it, but its check is judged first.
-fn past(read: BlockRead) -> BlockRead
+// What a block past the last number is refused by: no number is right for it, but its check is judged first.
+fn past(read: Result<Run, BlockRefusal>) -> BlockRefusal
     ensures { result ≡ past_last read }
 {
     match read {
-        BlockRead::WrongCheck => BlockRead::WrongCheck,
-        BlockRead::WrongNumber => BlockRead::WrongNumber,
-        BlockRead::CountOver => BlockRead::WrongNumber,
-        BlockRead::NotZero => BlockRead::WrongNumber,
-        BlockRead::Events { at: _, count: _ } => BlockRead::WrongNumber,
+        Err(BlockRefusal::WrongCheck) => BlockRefusal::WrongCheck,
+        _ => BlockRefusal::WrongNumber,
     }
 }
 
 // A piece's answer at its place, from 1.
-fn judged(place: u64, piece: &[u8]) -> BlockRead
+fn judged(place: u64, piece: &[u8]) -> Result<Run, BlockRefusal>
     ensures { result ≡ held_read (read_block place piece.now) }
 {
     if place > LAST_NUMBER {
-        return past(recorder::read_block(piece, NO_NUMBER));
+        return Err(past(recorder::read_block(piece, NO_NUMBER)));
     }
     recorder::read_block(piece, place as u32)
 }
@@ -51,23 +48,23 @@ fn judged(place: u64, piece: &[u8]) -> BlockRead
 struct Heard {
     state: ReaderState,
     tally: Tally,
-    read: BlockRead,
+    read: Result<Run, BlockRefusal>,
 }
 
 // A refused block. Nobody knows what was lost with it; the record that stands for it is counted nowhere.
-fn refused(state: ReaderState, tally: Tally, read: BlockRead) -> Heard
-    ensures { (result.state ≡ held (run_call base (seen state) loss).state) × (result.read ≡ read) }
+fn refused(state: ReaderState, tally: Tally, why: BlockRefusal) -> Heard
+    ensures { (result.state ≡ held (run_call base (seen state) loss).state) × (result.read ≡ Err why) }
 {
     Heard {
         state: ending::lose(state),
         tally,
-        read,
+        read: Err(why),
     }
 }
 
 // It refuses no state that came from fresh, so there is no verdict to look at.
-fn followed(state: ReaderState, tally: Tally, events: &[u8], read: BlockRead) -> Heard
-    ensures { (result.state ≡ held (run_call base (seen state) events.now).state) × (result.read ≡ read) }
+fn followed(state: ReaderState, tally: Tally, events: &[u8], run: Run) -> Heard
+    ensures { (result.state ≡ held (run_call base (seen state) events.now).state) × (result.read ≡ Ok run) }
 {
     let mut tally = tally;
     let a = reader::run(state, events);
@@ -75,7 +72,7 @@ fn followed(state: ReaderState, tally: Tally, events: &[u8], read: BlockRead) ->
     Heard {
         state: a.state,
         tally,
-        read,
+        read: Ok(run),
     }
 }
 
@@ -83,18 +80,12 @@ fn followed(state: ReaderState, tally: Tally, events: &[u8], read: BlockRead) ->
 fn hear(state: ReaderState, tally: Tally, place: u64, piece: &[u8]) -> Heard
     ensures { HearsAs state place piece.now result.state result.read }
 {
-    let read = judged(place, piece);
-    match read {
-        BlockRead::Events { at, count } => followed(
-            state,
-            tally,
-            &piece[at..at + LENGTH * count],
-            read,
-        ),
-        BlockRead::WrongCheck => refused(state, tally, read),
-        BlockRead::WrongNumber => refused(state, tally, read),
-        BlockRead::CountOver => refused(state, tally, read),
-        BlockRead::NotZero => refused(state, tally, read),
+    match judged(place, piece) {
+        Ok(run) => {
+            let events = &piece[run.at..run.at + LENGTH * run.count];
+            followed(state, tally, events, run)
+        }
+        Err(why) => refused(state, tally, why),
     }
 }
 
@@ -114,10 +105,10 @@ impl Reading {
         let h = hear(self.state, self.tally, self.place, piece);
         self.state = h.state;
         self.tally = h.tally;
-        if !matches!(h.read, BlockRead::Events { .. }) {
+        if let Err(why) = h.read {
             self.refused = true;
             out.mark(Status::Refused);
-            warn!(out, "block {} refused: {}\n", self.place, h.read);
+            warn!(out, "block {} refused: {why}\n", self.place);
         }
     }
 

@@ -48,21 +48,14 @@ fn descriptor(rt: &impl Env) -> Option<i32> {
     }
 }
 
-impl Out {
-    fn new(rt: &impl System, name: &str) -> Out {
-        Out {
-            page: [0; PAGE],
-            held: 0,
-            failed: None,
-            status: Status::Accepted,
-            status_fd: descriptor(rt),
-            name: Name(InlineText::of(name)),
-            input: Some(rt.input()),
-            output: rt.output(),
-            errors: rt.errors(),
-        }
-    }
+// Whether argument i is the word.
+fn is_given(rt: &impl Env, i: usize, word: &str) -> bool {
+    let mut text = io::buffer();
+    let n = argument(rt, i, &mut text);
+    n != 0 && &text[..n] == word.as_bytes()
+}
 
+impl Out {
     // Where the arguments begin that are the program's own: the descriptor stands before them.
     fn own(&self) -> usize
         ensures { result ≤ 2 }
@@ -94,7 +87,7 @@ impl Out {
     }
 
     // Says a failed write and tells the status. Nobody is left to be told that this last write failed: who asked for the digit misses it.
-    fn end(mut self) {
+    fn end(&mut self) {
         self.flush();
         if let Some(why) = self.failed {
             self.warn_why("a write to standard output failed", why);
@@ -109,25 +102,28 @@ impl Out {
 pub fn run<F: FnOnce(&mut Out)>(rt: &impl System, name: &str, program: F)
     requires { F.IsAlwaysCallable program }
 {
-    let mut out = Out::new(rt, name);
-    let own = out.own();
-    out.refuse_more(rt, own, "");
-    if out.status == Status::Accepted {
-        program(&mut out);
-    }
-    out.end();
+    run_with(rt, name, "", |out, _| program(out));
 }
 
-// Runs a program that takes one word, which is not empty and stands behind the descriptor's; it is told whether the word was given.
+// Runs a program that takes one word, which stands behind the descriptor's; it is told whether the word was given. An empty word is none, since an argument that is missing reads as an empty one.
+// The output is made here and handed to nobody but by reference: its page is too large to be moved.
 pub fn run_with<F: FnOnce(&mut Out, bool)>(rt: &impl System, name: &str, word: &str, program: F)
     requires { F.IsAlwaysCallable program }
 {
-    let mut out = Out::new(rt, name);
+    let mut out = Out {
+        page: [0; PAGE],
+        held: 0,
+        failed: None,
+        status: Status::Accepted,
+        status_fd: descriptor(rt),
+        name: Name(InlineText::of(name)),
+        input: Some(rt.input()),
+        output: rt.output(),
+        errors: rt.errors(),
+    };
     let own = out.own();
-    let mut text = io::buffer();
-    let n = argument(rt, own, &mut text);
-    let given = &text[..n] == word.as_bytes();
-    out.refuse_more(rt, own + given as usize, word);
+    let given = is_given(rt, own, word);
+    out.refuse_more(rt, own + usize::from(given), word);
     if out.status == Status::Accepted {
         program(&mut out, given);
     }

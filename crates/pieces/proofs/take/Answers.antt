@@ -16,6 +16,7 @@ use Rattle.model.proofs.Bools.{holds, and_left, and_right}
 use Rattle.model.proofs.Pieces.{held-length, read-few, take-reads, take-refused}
 use Rattle.common.specs.declared.Verdict.TheVariants.{Accepted, State}
 use Rattle.common.specs.Seen.{counts_of, counts_from}
+use Rattle.common.proofs.Back.{none_counted}
 use Rattle.reader.specs.declared.RunAnswer.{RunAnswer}
 use Rattle.reader.specs.States as R
 use Rattle.reader.proofs.Held.{state_back as reader-back}
@@ -114,7 +115,7 @@ pub took-requires : goal.took-requires
 took-requires c =
     let k = c in
     let a = k.args in
-    let none = ap (λ n. total (counts_of n)) c.none.ensures in
+    let none = ap (λ n. total (counts_of n)) (none_counted _ c.default.ensures) in
     let ran = judged-few a.state.reader a.piece.now c.run_accepted.result (reader-good (goal.at.took-requires k).Else-not-state_ok) c.run_accepted.ensures in
     omega (arith, none, ran, piece-fits (goal.at.took-requires k).Start)
 
@@ -124,7 +125,7 @@ returns-then-count-eq0 c =
     let a = k.args in
     let ran = c.run_accepted in
     c.took.ensures
-    ∙ ap (λ n. took_from n ran.result a.piece.now) c.none.ensures
+    ∙ ap (λ n. took_from n ran.result a.piece.now) (none_counted _ c.default.ensures)
     ∙ first a.state a.piece.now (reader-good (goal.at.returns-then-count-eq0 k).Else-not-state_ok) (left-good (goal.at.returns-then-count-eq0 k).Else-not-state_ok) ran.result c.if-count-eq0.true ran.ensures
 
 pub take_cut-requires : goal.take_cut-requires

@@ -8,6 +8,7 @@ use Rattle.model.specs.Records.{events_from}
 use Rattle.model.specs.Reader as R
 use Rattle.common.specs.declared.Mode.TheVariants.{Dropped, Stale}
 use Rattle.common.specs.Seen.{counts_of}
+use Rattle.common.proofs.Back.{none_counted}
 use Rattle.follow.specs.Runs.{ended_from, lost_at}
 use Rattle.reader.specs.States.{accepted}
 use Rattle.reader.proofs.States.{good-setup, good-current, good-rest, follow-run, lost_run}
@@ -34,7 +35,7 @@ returns-in-Dropped c =
     let e = c in
     let s = e.args.state in
     let run = lost_run s e.args.bytes.now Dropped e.requires c.in-Dropped.is tt in
-    let zeros = ap (λ a. lost_at s.shown s.current R.dropped (counts_of a) (left e.args.bytes.now)) c.none.ensures in
+    let zeros = ap (λ a. lost_at s.shown s.current R.dropped (counts_of a) (left e.args.bytes.now)) (none_counted _ c.default.ensures) in
     c.ran-in-Dropped.ensures ∙ ap (accepted s.setup) (c.lost.ensures ∙ zeros ∙ run)
 
 pub returns-in-Stale : goal.returns-in-Stale
@@ -42,5 +43,5 @@ returns-in-Stale c =
     let e = c in
     let s = e.args.state in
     let run = lost_run s e.args.bytes.now Stale e.requires c.in-Stale.is tt in
-    let zeros = ap (λ a. lost_at s.shown s.current R.stale (counts_of a) (left e.args.bytes.now)) c.none-in-Stale.ensures in
+    let zeros = ap (λ a. lost_at s.shown s.current R.stale (counts_of a) (left e.args.bytes.now)) (none_counted _ c.default-in-Stale.ensures) in
     c.ran-in-Stale.ensures ∙ ap (accepted s.setup) (c.lost-in-Stale.ensures ∙ zeros ∙ run)

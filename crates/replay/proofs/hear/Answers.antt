@@ -1,52 +1,39 @@
 -- `replay::hear` reads what a piece says: its events, which lie inside it, or a loss. Assumes nothing.
-use Rattle.std.proofs.Common.{◌≡◌, ◌*◌, ◌≤◌, length, sym, ap, ◌∙◌, arith}
+use Rattle.std.proofs.Common.{◌≡◌, ◌*◌, ◌≤◌, length, ap, ◌∙◌, arith}
 use Rattle.model.specs.Panel.{base}
 use Rattle.model.specs.Calls.{run_call}
 use Rattle.model.specs.Recorder.{header_length, most_in_block, block_length}
 use Rattle.reader.specs.States.{seen, held}
-use Rattle.replay.proofs.Laws.{inside, cut, hears}
-use Rattle.replay.proofs.hear.Goals.{In-Events}
+use Rattle.replay.proofs.Laws.{inside, cut, lost, hears}
+use Rattle.replay.proofs.hear.Goals.{In-Ok}
 use Rattle.replay.proofs.hear.Goals as goal
 
 -- The events lie inside the piece.
-found : (c : In-Events)
-    → (c.in-Events.at ≡ header_length) × (c.in-Events.count ≤ most_in_block)
+found : (c : In-Ok)
+    → (c.in-Ok.run'.at ≡ header_length) × (c.in-Ok.run'.count ≤ most_in_block)
     × (length c.args.piece.now ≡ block_length)
-found c = inside c.args.place c.args.piece.now _ _ _ c.judged-read.ensures c.in-Events.is
+found c = inside c.args.place c.args.piece.now _ _ c.judged.ensures c.in-Ok.is
 
-pub overflow_mul-count : goal.overflow_mul-count
-overflow_mul-count c = let k = found (goal.at.overflow_mul-count c).In-Events in omega (arith, k.0, k.1)
+pub overflow_mul-events : goal.overflow_mul-events
+overflow_mul-events c = let k = found (goal.at.overflow_mul-events c).In-Ok in omega (arith, k.0, k.1)
 
-pub overflow_add-at : goal.overflow_add-at
-overflow_add-at c = let k = found (goal.at.overflow_add-at c).In-Events in omega (arith, k.0, k.1)
+pub overflow_add-events : goal.overflow_add-events
+overflow_add-events c = let k = found (goal.at.overflow_add-events c).In-Ok in omega (arith, k.0, k.1)
 
-pub slice_bounds-followed-end : goal.slice_bounds-followed-end
-slice_bounds-followed-end c = let k = found (goal.at.slice_bounds-followed-end c).In-Events in omega (arith, k.0, k.1, k.2)
+pub slice_bounds-events-end : goal.slice_bounds-events-end
+slice_bounds-events-end c = let k = found (goal.at.slice_bounds-events-end c).In-Ok in omega (arith, k.0, k.1, k.2)
 
-pub returns-in-Events : goal.returns-in-Events
-returns-in-Events c =
+pub returns-in-Ok : goal.returns-in-Ok
+returns-in-Ok c =
     let a = c.args in
-    let e = c.in-Events in
-    hears a.state a.place a.piece.now _ _ _ _ c.judged-read.ensures e.is
-    (c.followed.ensures.0 ∙ ap (λ bs. held (run_call base (seen a.state) bs).state) (cut e.at (8 * e.count) a.piece.now))
-    (c.followed.ensures.1 ∙ sym e.is)
+    let run = c.in-Ok.run' in
+    hears a.state a.place a.piece.now _ _ _ _ c.judged.ensures c.in-Ok.is
+    (c.followed.ensures.0 ∙ ap (λ bs. held (run_call base (seen a.state) bs).state) (cut run.at (8 * run.count) a.piece.now))
+    c.followed.ensures.1
 
-pub returns-in-WrongCheck : goal.returns-in-WrongCheck
-returns-in-WrongCheck c =
+pub returns-in-Err : goal.returns-in-Err
+returns-in-Err c =
     let a = c.args in
-    hears a.state a.place a.piece.now _ _ _ _ c.judged-read.ensures c.in-WrongCheck.is c.refused.ensures.0 c.refused.ensures.1
-
-pub returns-in-WrongNumber : goal.returns-in-WrongNumber
-returns-in-WrongNumber c =
-    let a = c.args in
-    hears a.state a.place a.piece.now _ _ _ _ c.judged-read.ensures c.in-WrongNumber.is c.refused-in-WrongNumber.ensures.0 c.refused-in-WrongNumber.ensures.1
-
-pub returns-in-CountOver : goal.returns-in-CountOver
-returns-in-CountOver c =
-    let a = c.args in
-    hears a.state a.place a.piece.now _ _ _ _ c.judged-read.ensures c.in-CountOver.is c.refused-in-CountOver.ensures.0 c.refused-in-CountOver.ensures.1
-
-pub returns-in-NotZero : goal.returns-in-NotZero
-returns-in-NotZero c =
-    let a = c.args in
-    hears a.state a.place a.piece.now _ _ _ _ c.judged-read.ensures c.in-NotZero.is c.refused-in-NotZero.ensures.0 c.refused-in-NotZero.ensures.1
+    hears a.state a.place a.piece.now _ _ _ _ c.judged.ensures c.in-Err.is
+    (c.refused.ensures.0 ∙ ap (λ bs. held (run_call base (seen a.state) bs).state) (lost c.in-Err.why a.piece.now))
+    c.refused.ensures.1

@@ -1,13 +1,14 @@
--- `crane_follow::first_of`: the first record skipped, by its type and code. Assumes nothing.
+-- `common::first_skipped`: the first record skipped, by its type and code. Assumes nothing.
 use borrow.Author.Rules.{rules}
 use mathlib.Core.Path.{sym, ap, ◌∙◌}
 use Prim.Native.Nat.{◌+◌, ◌*◌, ◌≤◌}
 use lib.ListN.{length}
+use Rattle.std.specs.Prelude.{Some}
 use Rattle.model.specs.Events.{Event}
-use Rattle.model.specs.Reader.{event}
+use Rattle.common.specs.Seen.{skipped_from}
 use Rattle.common.proofs.Firsts.{within_some, at_some}
-use Rattle.crane_follow.proofs.first_of.Goals.{Else-skipped-eq0}
-use Rattle.crane_follow.proofs.first_of.Goals as goal
+use Rattle.common.proofs.first_skipped.Goals.{Else-skipped-eq0}
+use Rattle.common.proofs.first_skipped.Goals as goal
 
 -- The record is there.
 there : (c : Else-skipped-eq0) → 8 * c.args.first + 8 ≤ length c.args.bytes.now
@@ -24,4 +25,4 @@ record_at-e-requires c = there (goal.at.record_at-e-requires c).Else-skipped-eq0
 pub returns : goal.returns
 returns c =
     let a = c.args in
-    ap (λ (e : Event). event e.type e.code) c.record_at-e.ensures ∙ sym (at_some a.bytes.now a.skipped a.first c.if-skipped-eq0.false)
+    ap (λ (e : Event). Some (e.type, e.code)) c.record_at-e.ensures ∙ sym (ap skipped_from (at_some a.bytes.now a.skipped a.first c.if-skipped-eq0.false))
