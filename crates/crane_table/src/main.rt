@@ -3,11 +3,16 @@
 
 mod setup;
 
+ghost use Rattle.std.specs.Prelude.{◌≡◌};
+
 use common::{Counts, Mode, Verdict};
 use crane_reader::ReaderState;
 use setup::Bad;
 use std::io::Error;
-use stream::{Ended, Out, say, warn};
+use stream::{Out, Stop, say, warn};
+
+// The bytes of `io::large_buffer`: whole records.
+const ROOM: usize = 65536;
 
 // How many records were read while following, and how many of them have an unknown type. They are for a hint alone, so they may wrap.
 #[derive(Clone, Copy, Default)]
@@ -88,24 +93,49 @@ fn read_records(state: &mut ReaderState, tally: &mut Tally, bytes: &[u8]) {
     tally.add((bytes.len() / 8) as u64, a.counts);
 }
 
-// A record that is cut is held until the next bytes end it.
+// How the reading of a buffer stopped, and how many bytes of a record that is cut were left over.
+#[derive(Clone, Copy)]
+struct Turn {
+    stop: Stop,
+    rest: usize,
+}
+
+// A buffer's whole records. It is full while there is more, so a record is cut only at the end or by a failed read: one that two reads bring is whole here.
+fn read_some(out: &Out, state: &mut ReaderState, tally: &mut Tally, buf: &mut [u8; ROOM]) -> Turn
+    ensures { result.stop ≡ Stop.Full → result.rest ≡ 0 }
+{
+    let filled = out.fill(buf);
+    let rest = filled.n % 8;
+    read_records(state, tally, &buf[..filled.n - rest]);
+    Turn {
+        stop: filled.stop,
+        rest,
+    }
+}
+
+// A proved loop has to end, and nothing says that the input does: the turns are of a number that no run uses up.
 fn show(out: &mut Out, begun: ReaderState) {
     let mut buf = io::large_buffer();
     let mut state = begun;
     let mut tally = Tally::default();
-    let ended = out.take_input(&mut buf, |_, bytes| {
-        let whole = bytes.len() - bytes.len() % 8;
-        read_records(&mut state, &mut tally, &bytes[..whole]);
-        whole
-    });
-    match ended {
-        Ended::ReadFailed(_, why) => {
-            warn_lost(out, why);
-            say_end(out, tally, lose(state));
+    for _ in 0..u64::MAX {
+        let turn = read_some(out, &mut state, &mut tally, &mut buf);
+        match turn.stop {
+            Stop::Full => {}
+            Stop::Failed(why) => {
+                warn_lost(out, why);
+                say_end(out, tally, lose(state));
+                return;
+            }
+            Stop::Ended if turn.rest != 0 => {
+                refuse_rest(out, turn.rest);
+                return;
+            }
+            Stop::Ended => {
+                say_end(out, tally, state);
+                return;
+            }
         }
-        Ended::Input(0) => say_end(out, tally, state),
-        Ended::Input(rest) => refuse_rest(out, rest),
-        Ended::WriteFailed => {}
     }
 }
 

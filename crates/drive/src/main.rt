@@ -22,11 +22,12 @@ enum Long {
     NoCall,
 }
 
-// A script as it is read: the numbers of the line that was read last, and what is known of a line whose first bytes are gone.
+// A script as it is read: the numbers of the line that was read last; what is known of a line whose first bytes are gone; and how many bytes at the front have no newline. Looked through again for each byte that comes, a long line would cost the square of its length.
 #[derive(Drop)]
 struct Script {
     ns: ArrayVec<u64, NUMBERS>,
     long: Option<Long>,
+    looked: usize,
 }
 
 fn bad_line(out: &mut Out) {
@@ -61,13 +62,18 @@ impl Script {
 
     // Answers the lines that are there, and says how many bytes they are. The rest begins a line, unless it fills the buffer: that line is too long.
     fn take(&mut self, out: &mut Out, bytes: &[u8]) -> usize {
-        if let Some(last) = bytes.iter().rposition(|b| *b == b'\n') {
+        let looked = self.looked.min(bytes.len());
+        self.looked = 0;
+        if let Some(found) = bytes[looked..].iter().rposition(|b| *b == b'\n') {
+            let last = looked + found;
             for line in bytes[..last].split(|b| *b == b'\n') {
                 self.end_line(out, line);
             }
+            self.looked = bytes.len() - last - 1;
             return last + 1;
         }
         if bytes.len() < LINE {
+            self.looked = bytes.len();
             return 0;
         }
         let begun = if is_comment(bytes) {
@@ -85,6 +91,7 @@ fn run(out: &mut Out) {
     let mut script = Script {
         ns: ArrayVec::new(),
         long: None,
+        looked: 0,
     };
     match out.take_input(&mut buf, |out, bytes| script.take(out, bytes)) {
         Ended::Input(left) => script.end_line(out, &buf[..left]),

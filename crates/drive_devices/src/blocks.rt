@@ -1,5 +1,6 @@
 // The calls of the shift recorder (K2): a block made, a recording's next blocks laid into a buffer of marks, and a piece read as a block.
 use crate::say_buffer;
+use drive_lines::kinds::{BLOCK_BYTES, LAY_BYTES};
 use drive_lines::values;
 use recorder::BlockRefusal;
 use stream::{Out, say};
@@ -12,7 +13,7 @@ const POSITION: usize = 1;
 const SIZE: usize = 2;
 
 pub fn block(out: &mut Out, ns: &[u64]) {
-    let events = values::bytes_of(ns, NUMBER + 1);
+    let events = values::bytes_of(ns, BLOCK_BYTES);
     let a = recorder::make_block(values::natural(ns, NUMBER), events.as_slice());
     say!(out, "{}", a.verdict);
     say_buffer(out, &a.block);
@@ -21,7 +22,7 @@ pub fn block(out: &mut Out, ns: &[u64]) {
 pub fn lay(out: &mut Out, ns: &[u64]) {
     let number = values::natural(ns, NUMBER);
     let position = values::number(ns, POSITION) as usize;
-    let events = values::bytes_of(ns, SIZE + 1);
+    let events = values::bytes_of(ns, LAY_BYTES);
     let mut marks = values::marks();
     let buf = &mut marks[..values::size(ns, SIZE)];
     let a = recorder::lay_blocks(number, events.as_slice(), buf, position);
@@ -31,7 +32,7 @@ pub fn lay(out: &mut Out, ns: &[u64]) {
 
 // The place and count of the events, or the number of the name that the block is refused by, in document 02's order.
 pub fn read(out: &mut Out, ns: &[u64]) {
-    let piece = values::bytes_of(ns, NUMBER + 1);
+    let piece = values::bytes_of(ns, BLOCK_BYTES);
     match recorder::read_block(piece.as_slice(), values::natural(ns, NUMBER)) {
         Ok(run) => say!(out, "0 {} {}", run.at, run.count),
         Err(BlockRefusal::WrongCheck) => say!(out, "1"),

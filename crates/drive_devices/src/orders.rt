@@ -6,7 +6,7 @@ use commands::{
     AbsoluteMode, AskClock, ButtonAction, Command, Interrogate, LoadPosition, RelativeMode, Reset,
     Scale, SetClock, Threshold,
 };
-use drive_lines::kinds::POD;
+use drive_lines::kinds::{COMMAND_NUMBERS, POD, READ_BYTES};
 use drive_lines::values;
 use pod::Clock;
 use stream::{Out, say};
@@ -18,7 +18,7 @@ const SIZE: usize = POD + 1;
 
 const COMMAND: usize = POD + 2;
 
-const FIRST: usize = POD + 3;
+const FIRST: usize = COMMAND_NUMBERS;
 
 // docs/DRIVE.md numbers the commands.
 const ABSOLUTE: u64 = 3;
@@ -78,7 +78,7 @@ fn command_of(ns: &[u64]) -> Command {
 // Where reading goes on stands first.
 pub fn read(out: &mut Out, ns: &[u64]) {
     let position = values::number(ns, 0) as usize;
-    let bytes = values::bytes_of(ns, 1);
+    let bytes = values::bytes_of(ns, READ_BYTES);
     let a = commands::read(bytes.as_slice(), position);
     say!(out, "{} {}", a.next, a.answer);
 }

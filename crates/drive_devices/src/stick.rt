@@ -1,5 +1,6 @@
 // The calls of the force stick (K10): an answer read from bytes at a position, and a report's packet written into a buffer of marks.
 use crate::say_buffer;
+use drive_lines::kinds::READ_BYTES;
 use drive_lines::values;
 use force::{Answer, Report};
 use stream::{Out, say};
@@ -29,7 +30,7 @@ fn say_answer(out: &mut Out, a: Answer) {
 // A position stands before the bytes.
 pub fn read(out: &mut Out, ns: &[u64]) {
     let position = values::number(ns, 0) as usize;
-    let bytes = values::bytes_of(ns, 1);
+    let bytes = values::bytes_of(ns, READ_BYTES);
     let a = force::read(bytes.as_slice(), position);
     say_answer(out, a.answer);
     say!(out, " {}", a.next);

@@ -60,6 +60,17 @@ pub const CRANE_TABLE: usize = crane_panel::PER_SLOT * crane_panel::RECORDS;
 
 pub const CRANE_READER: usize = CRANE_SETUP + 2 + 2 * CRANE_TABLE;
 
+// What stands before the bytes of a recorder's call: a block's number; or a number, a position and a size.
+pub const BLOCK_BYTES: usize = 1;
+
+pub const LAY_BYTES: usize = 3;
+
+// A position stands before the bytes that are read.
+pub const READ_BYTES: usize = 1;
+
+// A pod, a position, a size and a command's number; its numbers come behind them.
+pub const COMMAND_NUMBERS: usize = POD + 3;
+
 // The bytes of the largest buffer.
 pub const BUFFER: usize = 4096;
 

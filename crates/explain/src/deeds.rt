@@ -36,13 +36,11 @@ fn deed_of(c: Counts, after: Mode) -> Deed {
     }
 }
 
-// The reader refuses no state that came from fresh, so there is no verdict to look at.
-pub fn read_one(before: ReaderState, event: Event) -> Read {
-    let a = reader::read_one(before, event);
+pub fn read_as(event: Event, before: ReaderState, after: ReaderState, counts: Counts) -> Read {
     Read {
         event,
         before,
-        after: a.state,
-        deed: deed_of(a.counts, a.state.mode),
+        after,
+        deed: deed_of(counts, after.mode),
     }
 }

@@ -2,6 +2,9 @@
 // 62 records go to each block but the last. A block is written when it is full, and the last one when the input has ended. Input that was lost is recorded as SYN_DROPPED.
 #![tactic(auto)]
 
+ghost use Rattle.std.specs.Prelude.{◌+◌, ◌<◌, ◌≤◌, length};
+ghost use Rattle.model.specs.Recorder.{full_run};
+
 use common::Verdict;
 use header::Bad;
 use recorder::{BLOCK, FULL};
@@ -57,8 +60,11 @@ impl Recording {
         }
     }
 
-    // The full blocks among the bytes; how many bytes those are.
-    fn add_full(&mut self, out: &mut Out, bytes: &[u8]) -> usize {
+    // The full blocks among the bytes; how many bytes those are. Less than a block is left.
+    fn add_full(&mut self, out: &mut Out, bytes: &[u8]) -> usize
+        ensures used { result ≤ length bytes.now }
+        ensures held { length bytes.now < result + full_run }
+    {
         for block in bytes.chunks_exact(FULL) {
             if !self.is_over(out) {
                 self.add_block(out, block);
@@ -85,10 +91,10 @@ impl Recording {
     }
 
     // The read failed. Nobody knows what was lost with the input, so who replays it must not go on with the old table. A record that was cut is lost too.
-    fn lose(&mut self, out: &mut Out, buf: &mut [u8; ROOM], left: usize, why: Error) {
+    fn lose(&mut self, out: &mut Out, buf: &mut [u8; ROOM], left: usize, why: Error)
+        requires { left < full_run }
+    {
         out.read_failed(why);
-        // Less than a block is left, since full blocks are used.
-        let left = left.min(FULL - 1);
         let whole = left - left % LENGTH;
         records::put(&mut buf[whole..], records::SYN, records::DROPPED, 0);
         self.add_block(out, &buf[..whole + LENGTH]);

@@ -3,9 +3,10 @@
 #![tactic(auto)]
 
 ghost use Rattle.std.specs.Prelude.{◌≡◌, Ok, Err};
+ghost use Rattle.io.specs.Counts.{IsPrefixLen};
 ghost use Rattle.model.specs.Panel.{base};
 ghost use Rattle.model.specs.Calls.{run_call};
-ghost use Rattle.model.specs.Recorder.{read_block, loss};
+ghost use Rattle.model.specs.Recorder.{read_block, loss, block_length};
 ghost use Rattle.recorder.specs.Seen.{held_read};
 ghost use Rattle.reader.specs.States.{seen, held};
 ghost use Rattle.replay.specs.Heard.{past_last, HearsAs};
@@ -16,7 +17,8 @@ use header::Bad;
 use reader::ReaderState;
 use recorder::{BLOCK, BlockRefusal, Run};
 use records::LENGTH;
-use stream::{Ended, Out, Status, warn};
+use std::io::Error;
+use stream::{Filled, Out, Status, Stop, warn};
 
 // The last number of a block, and one that no block has.
 const LAST_NUMBER: u64 = 4294967295;
@@ -111,13 +113,33 @@ impl Reading {
             warn!(out, "block {} refused: {why}\n", self.place);
         }
     }
+}
 
-    fn take_blocks(&mut self, out: &mut Out, bytes: &[u8]) -> usize {
-        for block in bytes.chunks_exact(BLOCK) {
-            self.take_piece(out, block);
+// A block, or what is left of the input. It is full while there is more, so a block that two reads bring is whole here.
+fn fill_block(out: &Out, block: &mut [u8; BLOCK]) -> Filled
+    ensures within { IsPrefixLen result.n block.new }
+    ensures whole { result.stop ≡ Stop.Full → result.n ≡ block_length }
+{
+    out.fill(block)
+}
+
+// All blocks; why a read failed. What that read cut is lost with it, and is no refusal.
+// A proved loop has to end, and nothing says that the input does: the turns are of a number that no run uses up.
+fn take_all(out: &mut Out, r: &mut Reading) -> Option<Error> {
+    let mut block = [0; BLOCK];
+    for _ in 0..u64::MAX {
+        let filled = fill_block(out, &mut block);
+        if let Stop::Failed(why) = filled.stop {
+            return Some(why);
         }
-        bytes.len() - bytes.len() % BLOCK
+        if filled.n != 0 {
+            r.take_piece(out, &block[..filled.n]);
+        }
+        if matches!(filled.stop, Stop::Ended) {
+            return None;
+        }
     }
+    None
 }
 
 // What refused blocks mean, once for all of them.
@@ -138,15 +160,9 @@ fn replay(out: &mut Out, state: ReaderState) {
         place: 0,
         refused: false,
     };
-    let mut buf = io::large_buffer();
-    match out.take_input(&mut buf, |out, bytes| r.take_blocks(out, bytes)) {
-        // What a failed read cut is lost with it, and is no refusal.
-        Ended::ReadFailed(_, why) => {
-            ending::warn_lost(out, why);
-            r.state = ending::lose(r.state);
-        }
-        Ended::Input(0) | Ended::WriteFailed => {}
-        Ended::Input(left) => r.take_piece(out, &buf[..left]),
+    if let Some(why) = take_all(out, &mut r) {
+        ending::warn_lost(out, why);
+        r.state = ending::lose(r.state);
     }
     hint(out, r.refused);
     ending::say_end(out, r.tally, r.state);

@@ -1,5 +1,5 @@
 // Input: one read, a buffer filled, and all that comes, handed on piece by piece.
-ghost use Rattle.std.specs.Prelude.{◌≡◌, ◌≤◌, length, IfOk};
+ghost use Rattle.std.specs.Prelude.{◌≡◌, ◌≤◌, ◌<◌, ◌+◌, ℕ, length, IfOk};
 ghost use Rattle.io.specs.Counts.{IsPrefixLen};
 ghost use Rattle.stream.specs.Left.{left};
 
@@ -80,7 +80,8 @@ impl Out {
         mut take: F,
     ) -> Ended
         requires { F.IsAlwaysCallable take }
-        ensures { left result ≤ length buf.new }
+        ensures within { left result ≤ length buf.new }
+        ensures fewer { (k : ℕ) → ((f : F) (out : _) (bytes : _) (n : ℕ) (after : _) (next : F) → F.step f out bytes n after next → length bytes.now < n + k) → 0 < k → left result < k }
     {
         let mut held = 0;
         for _ in 0..u64::MAX {
@@ -93,7 +94,9 @@ impl Out {
                 Ok(n) => {
                     let there = held + n;
                     let used = take(self, &buf[..there]).min(there);
-                    buf.copy_within(used..there, 0);
+                    if used != 0 {
+                        buf.copy_within(used..there, 0);
+                    }
                     held = there - used;
                     self.flush();
                 }

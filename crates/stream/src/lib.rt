@@ -54,7 +54,7 @@ impl Display for Name {
 }
 
 // A program's streams: the page, of which the first `held` bytes are not written yet; why a write failed, after which no other is made; the status so far, and the descriptor that it goes to; the program's name.
-#[derive(Drop)]
+#[derive(Clone, Copy)]
 pub struct Out {
     page: [u8; PAGE],
     held: usize,

@@ -2,7 +2,10 @@
 // A frame is all records up to and with the next SYN_REPORT. A refusal is a line on standard error, and the next frame goes on from the state as it was. Input that was lost is passed on as SYN_DROPPED.
 #![tactic(auto)]
 
-ghost use Rattle.std.specs.Prelude.{◌+◌, ◌<◌, ◌≤◌, length, IfSome};
+ghost use Rattle.std.specs.Prelude.{◌≡◌, ◌+◌, ◌*◌, ◌<◌, ◌≤◌, length, IfSome};
+ghost use Rattle.model.specs.Panel.{base};
+ghost use Rattle.model.specs.Calls.{most_events};
+ghost use Rattle.stream.specs.Left.{left};
 ghost use Rattle.write_anonymous.specs.Room.{longest};
 
 use common::Verdict;
@@ -10,12 +13,15 @@ use header::{Bad, Header};
 use panel::MOST_EVENTS;
 use records::{Event, LENGTH};
 use stream::{Ended, Out, Status, warn};
-use writer::WriterState;
+use writer::{WriterState, Written};
 
 // The most records of a frame, its SYN_REPORT among them, and their bytes. A frame is held until it is whole, so there has to be a limit.
 const MOST_RECORDS: usize = 4096;
 
 const LONGEST: usize = LENGTH * MOST_RECORDS;
+
+// The bytes of `io::large_buffer`, more than the longest frame has.
+const ROOM: usize = 65536;
 
 // The most bytes that a frame's events take; pointer emulation is off.
 const EVENTS: usize = LENGTH * MOST_EVENTS;
@@ -40,6 +46,31 @@ fn next_end(bytes: &[u8], from: usize) -> Option<usize>
         }
     }
     None
+}
+
+// The bytes of the records that the library put on the page: no more than a frame may have.
+fn length_of(count: usize) -> usize
+    requires { count ≤ most_events base + 4 }
+    ensures { result ≡ 8 * count }
+{
+    LENGTH * count
+}
+
+// What the library answered of a frame, and the bytes of its records.
+#[derive(Clone, Copy)]
+struct Sent {
+    answer: Written,
+    bytes: usize,
+}
+
+// A frame on the rest of the page.
+fn write_on(state: WriterState, bytes: &[u8], rest: &mut [u8]) -> Sent {
+    let answer = anonymous::write(state, bytes, rest, 0);
+    let bytes = match answer.verdict {
+        Verdict::Accepted => length_of(answer.count),
+        _ => 0,
+    };
+    Sent { answer, bytes }
 }
 
 // The writer's state; the number of the frame that comes next, from 1, and whether that was refused for its length, so that its records are let go; and how many bytes at the front have no SYN_REPORT. Looked through again for each byte that comes, a long frame would cost the square of its length.
@@ -69,12 +100,9 @@ impl Sender {
         let state = self.state;
         let mut written = None;
         out.put_with(EVENTS, |rest| {
-            let answer = anonymous::write(state, bytes, rest, 0);
-            written = Some(answer);
-            match answer.verdict {
-                Verdict::Accepted => LENGTH.saturating_mul(answer.count),
-                _ => 0,
-            }
+            let sent = write_on(state, bytes, rest);
+            written = Some(sent.answer);
+            sent.bytes
         });
         let Some(answer) = written else { return };
         self.state = answer.state;
@@ -128,9 +156,17 @@ impl Sender {
     }
 }
 
+// All frames; what ended them. A read into no room brings nothing, and would look like the end of the input: fewer bytes are held than the buffer has.
+fn take_all(out: &mut Out, sender: &mut Sender, buf: &mut [u8; ROOM]) -> Ended
+    ensures held { left result ≤ longest }
+    ensures room { left result < length buf.new }
+{
+    out.take_input(buf, |out, bytes| sender.take(out, bytes))
+}
+
 fn send_all(out: &mut Out, mut sender: Sender) {
     let mut buf = io::large_buffer();
-    match out.take_input(&mut buf, |out, bytes| sender.take(out, bytes)) {
+    match take_all(out, &mut sender, &mut buf) {
         Ended::WriteFailed => {}
         Ended::ReadFailed(_, why) => {
             out.read_failed(why);

@@ -11,12 +11,12 @@ const BYTES: usize = 9;
 
 fn report_of(b: [u8; BYTES]) -> Report {
     Report {
-        x: i16::from_le_bytes([b[0], b[1]]),
-        y: i16::from_le_bytes([b[2], b[3]]),
+        x: force::word_of(b[0], b[1]),
+        y: force::word_of(b[2], b[3]),
         throttle: b[4],
-        buttons: u16::from_le_bytes([b[5], b[6]]),
+        buttons: force::join(b[5], b[6]),
         hat: b[7],
-        rudder: b[8].cast_signed(),
+        rudder: force::signed_byte(b[8]),
     }
 }
 

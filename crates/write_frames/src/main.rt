@@ -2,8 +2,9 @@
 // A refusal is a line on standard error, and the next frame goes on from the state as it was. Input that was lost is passed on as SYN_DROPPED. The argument --pointer turns pointer emulation on.
 #![tactic(auto)]
 
-ghost use Rattle.std.specs.Prelude.{◌*◌, ◌≤◌};
-ghost use Rattle.model.specs.Panel.{per_slot, records};
+ghost use Rattle.std.specs.Prelude.{◌≡◌, ◌+◌, ◌*◌, ◌≤◌};
+ghost use Rattle.model.specs.Panel.{base, per_slot, records};
+ghost use Rattle.model.specs.Calls.{most_events};
 
 use header::{Bad, Header};
 use panel::{MOST_EVENTS, PER_SLOT, RECORDS};
@@ -36,6 +37,29 @@ fn numbers_of(bytes: &[u8], frame: &mut [i32; NUMBERS]) -> usize
     count
 }
 
+// The bytes of the records that the writer put on the page: no more than a frame may have.
+fn length_of(count: u64) -> usize
+    requires { count ≤ most_events base + 4 }
+    ensures { result ≡ 8 * count }
+{
+    LENGTH * count as usize
+}
+
+// What became of a frame: document 01's number of its refusal, or 0 and the bytes of its records.
+#[derive(Clone, Copy)]
+struct Sent {
+    number: u32,
+    bytes: usize,
+}
+
+// A frame on the rest of the page. What the writer tells begins with the count.
+fn write_on(state: &mut [u8], frame: &[i32], rest: &mut [u8]) -> Sent {
+    let mut told = [0; 3];
+    let number = lent_writer::write(state, frame, rest, 0, &mut told);
+    let bytes = if number == 0 { length_of(told[0]) } else { 0 };
+    Sent { number, bytes }
+}
+
 // The writer's state, which changes in place; a frame's numbers, cleared once and not for every frame; the number of the frame that comes next, from 1.
 #[derive(Drop)]
 struct Sender {
@@ -45,20 +69,16 @@ struct Sender {
 }
 
 impl Sender {
-    // One frame: its records, or the line of its refusal with document 01's number. What the writer tells begins with the count.
+    // One frame: its records, or the line of its refusal with document 01's number.
     fn send(&mut self, out: &mut Out, bytes: &[u8]) {
         let count = numbers_of(bytes, &mut self.numbers);
         let state = &mut self.state;
         let frame = &self.numbers[..count];
         let mut number = 0;
         out.put_with(EVENTS, |rest| {
-            let mut told = [0; 3];
-            number = lent_writer::write(state, frame, rest, 0, &mut told);
-            if number == 0 {
-                LENGTH.saturating_mul(told[0] as usize)
-            } else {
-                0
-            }
+            let sent = write_on(state, frame, rest);
+            number = sent.number;
+            sent.bytes
         });
         if number != 0 {
             out.mark(Status::Refused);
