@@ -15,7 +15,7 @@ use Rattle.common.specs.Lost.{heard, on_lost, last_mode}
 
 -- ---- what it does not hear
 
-mute_skip : (w : Unknown) (t c : ℕ) (m : Mode) → on_lost m (skip w t c) ≡ m
+pub mute_skip : (w : Unknown) (t c : ℕ) (m : Mode) → on_lost m (skip w t c) ≡ m
 mute_skip w t c following = refl
 mute_skip w t c dropped = refl
 mute_skip w t c stale = refl

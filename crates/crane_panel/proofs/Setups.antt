@@ -1,6 +1,6 @@
 -- The bounds that a good setup of a crane gives. Cited by the proofs of the cranes' crates. Assumes nothing.
 use mathlib.Core.Path.{◌≡◌}
-use mathlib.Core.Bool.{true, ◌&&◌}
+use mathlib.Core.Bool.{true, false, ◌&&◌}
 use Prim.Native.Nat.{ℕ, ◌≤◌, ◌<◌}
 use lib.Dec.{T, leb, leb→le}
 use Rattle.model.specs.Numbers.{between}
@@ -8,6 +8,7 @@ use Rattle.model.specs.Panel.{crane, setup_good, crane_records}
 use Rattle.model.proofs.Bools.{holds, both_left, both_right}
 use Rattle.crane_panel.specs.declared.Setup.{Setup}
 use Rattle.crane_panel.specs.Seen.{setup_of}
+use Rattle.common.proofs.Signs.{and-true}
 
 -- The bounds of a good setup's numbers.
 pub record Small (u : Setup) : Type 0 where
@@ -37,3 +38,18 @@ small u e =
       y = at_most u.y 32_767 (both_left c (d && true) i);
       pressure = at_most u.pressure 255 (both_left d true (both_right c (d && true) i));
     }
+
+-- ---- a setup's test, by the first number that fails
+
+module _ (u : Setup) where
+  pub setup_1 : between 1 crane_records u.n ≡ false → setup_good crane (setup_of u) ≡ false
+  setup_1 e = rw e
+
+  pub setup_2 : between 1 crane_records u.n ≡ true → between 1 32_767 u.x ≡ false → setup_good crane (setup_of u) ≡ false
+  setup_2 e f = rw (e, f)
+
+  pub setup_3 : between 1 crane_records u.n ≡ true → between 1 32_767 u.x ≡ true → between 1 32_767 u.y ≡ false → setup_good crane (setup_of u) ≡ false
+  setup_3 e f g = rw (e, f, g)
+
+  pub setup_4 : between 1 crane_records u.n ≡ true → between 1 32_767 u.x ≡ true → between 1 32_767 u.y ≡ true → setup_good crane (setup_of u) ≡ between 1 255 u.pressure
+  setup_4 e f g = rw (e, f, g) (and-true _)
