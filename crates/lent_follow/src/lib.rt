@@ -7,6 +7,7 @@ ghost use Rattle.model.specs.Table.{ids_differ};
 ghost use Rattle.model.specs.Records.{events_of};
 ghost use Rattle.model.specs.Reader.{following, dropped, nothing};
 ghost use Rattle.common.specs.Seen.{mode_of, counts_of};
+ghost use Rattle.common.specs.Lost.{last_mode};
 ghost use Rattle.common.specs.Runs.{onward};
 ghost use Rattle.panel.specs.Seen.{setup_of, table_of, panel_seen, blank, unused_all, SameFrom};
 ghost use Rattle.follow.specs.Seen.{reader_of};
@@ -88,6 +89,17 @@ fn ids_apart(n: usize, t: &[u8]) -> bool
     apart || panel::ids_differ(n, lent::table_at(t, PENDING))
 }
 
+// The mode after the records from k on, once the reader lost track; nothing is pending any more. Cold, since a run loses track once at most: inlined, its two
+// loops take registers from the loop of `follow`, whose counts then go through memory at each record that is skipped.
+#[cold]
+fn mode_lost(t: &mut [u8], m: Mode, bytes: &[u8], k: usize) -> Mode
+    requires { (length t.old ≡ both_size) × (k ≤ length bytes.now / 8) }
+    ensures { (mode_of result ≡ last_mode (mode_of m) (left_from bytes.now k)) × Holds (shown_in t.old) (shown_in t.old) t.new }
+{
+    take_back(t);
+    common::last_mode(m, bytes, k)
+}
+
 // The rest of a run, from record k on, once the reader lost track.
 fn lost(
     t: &mut [u8],
@@ -100,8 +112,7 @@ fn lost(
     requires { (length t.old ≡ both_size) × (k ≤ length bytes.now / 8) }
     ensures { with_tables result t.new ≡ lost_at (shown_in t.old) current (mode_of m) (counts_of before) (left_from bytes.now k) }
 {
-    take_back(t);
-    let mode = common::last_mode(m, bytes, k);
+    let mode = mode_lost(t, m, bytes, k);
     EndedIn {
         current,
         mode,

@@ -12,6 +12,6 @@ returns c =
     let a = c.args in
     let s = a.bytes.now in
     let n = length s / 8 in
-    let t = c.take_back.ensures in
-    let mode = sym (mode_back c.last_mode-mode.result) ∙ ap mode_from c.last_mode-mode.ensures in
+    let t = c.mode_lost-mode.ensures.1 in
+    let mode = sym (mode_back c.mode_lost-mode.result) ∙ ap mode_from c.mode_lost-mode.ensures.0 in
     rw (t.shown, t.pending, events-length (n - a.k) s (8 * a.k), mode, skipped_back a.before.first)
