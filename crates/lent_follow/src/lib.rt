@@ -90,7 +90,7 @@ fn ids_apart(n: usize, t: &[u8]) -> bool
 }
 
 // The mode after the records from k on, once the reader lost track; nothing is pending any more. Cold, since a run loses track once at most: inlined, its two
-// loops take registers from the loop of `follow`, whose counts then go through memory at each record that is skipped.
+// loops take registers from the loop of `follow`, and a record that is skipped takes up to eight instructions more.
 #[cold]
 fn mode_lost(t: &mut [u8], m: Mode, bytes: &[u8], k: usize) -> Mode
     requires { (length t.old ≡ both_size) × (k ≤ length bytes.now / 8) }
